@@ -1,0 +1,77 @@
+-- A `BTreeMap` and the finite map that it stands for.
+use Rattle.std.proofs.Common.{◌≡◌, ℕ, List, [], ◌∷◌, map, Bool, true, false, Some, refl, ap, sym, ◌∙◌}
+use Rattle.std.specs.Ordering.{nat_cmp, is_lt}
+use Rattle.std.specs.Cmp.Lexicographic.{slice_cmp, nat_list_cmp_total}
+use Rattle.std.specs.Cmp.{eq_by_cmp_equiv}
+use Rattle.std.specs.BTreeMap as tree
+use Rattle.std.specs.BTreeMap.{BTreeMap, is_at, Updates}
+use Rattle.std.specs.FinMap.{FinMap, get, insert, from_entries, find, get-from_entries, get-insert, same_map, slice_cmp-IsAntisymmetric, nat_cmp-IsAntisymmetric}
+use Rattle.std.specs.FinMap.{entries, keys, put, len-entries, len-empty, empty, entries-insert}
+use Rattle.std.specs.Map.{lookup}
+use Rattle.std.specs.List.Sorted.{IsStrictlySortedBy}
+use Rattle.std.specs.List.{AllByRecursion}
+use Rattle.std.specs.declared.cmp.Ordering.TheVariants.{Less, Equal, Greater}
+use Rattle.std.specs.declared.cmp.Ordering.{Ordering}
+use Rattle.std.specs.Prelude.{T, ◌&&◌}
+use Rattle.std.specs.FinMap.{entries_sorted}
+use Rattle.std.specs.FinMap.Entries.{below_all, is_sorted}
+use Rattle.std.proofs.Common.{length, arith}
+
+first_true : (a b : Bool) → T (a && b) → T a
+first_true true b h = tt
+first_true false b h = h
+
+second_true : (a b : Bool) → T (a && b) → T b
+second_true true b h = h
+second_true false b h = absurd h
+
+less_is : (o : Ordering) → T (is_lt o) → o ≡ Less
+less_is Less h = refl
+less_is Equal h = absurd h
+less_is Greater h = absurd h
+
+module _ {X : Type 0} where
+  find_lookup : (q : List ℕ) (es : List (List ℕ × X)) → find (slice_cmp nat_cmp) q es ≡ lookup (is_at (slice_cmp nat_cmp q)) es
+  find_lookup q [] = refl
+  find_lookup q (e ∷ es) = rw (find_lookup q es) refl
+
+  -- a look-up in the tree is one in the finite map
+  pub get_table : (m : BTreeMap (List ℕ) X) (q : List ℕ) → get (from_entries {R = slice_cmp nat_cmp} m.entries) q ≡ tree.get (slice_cmp nat_cmp) m q
+  get_table m q = get-from_entries nat_list_cmp_total m.entries q ∙ find_lookup q m.entries
+
+  -- so is an insertion
+  pub insert_table : (m n : BTreeMap (List ℕ) X) (k : List ℕ) (v : X) → Updates (slice_cmp nat_cmp) m n k (Some v) → from_entries {R = slice_cmp nat_cmp} n.entries ≡ insert (from_entries m.entries) k v
+  insert_table m n k v u =
+      same_map nat_list_cmp_total (slice_cmp-IsAntisymmetric nat_cmp-IsAntisymmetric) _ _
+      (λ q. get_table n q ∙ u.0 q ∙ rw ((eq_by_cmp_equiv nat_list_cmp_total).symm k q, ← get_table m q, get-insert nat_list_cmp_total (from_entries m.entries) k v q) refl)
+
+  no_entries : (es : List (List ℕ × X)) → length es ≡ 0 → es ≡ []
+  no_entries [] e = refl
+  no_entries (x ∷ es) e = absurd (omega arith)
+
+  put_front : (k : List ℕ) (v : X) (es : List (List ℕ × X)) → AllByRecursion (λ y. slice_cmp nat_cmp k y ≡ Less) (map (λ e. e.0) es) → put (slice_cmp nat_cmp) k v es ≡ (k, v) ∷ es
+  put_front k v [] h = refl
+  put_front k v (e ∷ es) h = rw h.0 refl
+
+  pub entries_table : (es : List (List ℕ × X)) → IsStrictlySortedBy (slice_cmp nat_cmp) (map (λ e. e.0) es) → entries (from_entries {R = slice_cmp nat_cmp} es) ≡ es
+  unfolding IsStrictlySortedBy
+  entries_table [] h = no_entries _ (sym (len-entries (empty {X = X} {R = slice_cmp nat_cmp})) ∙ len-empty (slice_cmp nat_cmp) X)
+  entries_table (e ∷ es) h = entries-insert nat_list_cmp_total (from_entries es) e.0 e.1 ∙ ap (put (slice_cmp nat_cmp) e.0 e.1) (entries_table es h.1) ∙ put_front e.0 e.1 es h.0
+
+  -- the keys of both
+  pub keys_table : (m : BTreeMap (List ℕ) X) → tree.IsOrdered (slice_cmp nat_cmp) m → keys (from_entries {R = slice_cmp nat_cmp} m.entries) ≡ tree.keys m
+  keys_table m h = ap (map (λ e. e.0)) (entries_table m.entries h)
+
+module _ {K X : Type 0} (R : K → K → Ordering) where
+  above_all : (x : K) (es : List (K × X)) → T (below_all R x es) → AllByRecursion (λ y. R x y ≡ Less) (map (λ e. e.0) es)
+  above_all x [] h = tt
+  above_all x (e ∷ es) h = (less_is (R x e.0) (first_true (is_lt (R x e.0)) (below_all R x es) h), above_all x es (second_true (is_lt (R x e.0)) (below_all R x es) h))
+
+  sorted_keys : (es : List (K × X)) → T (is_sorted R es) → IsStrictlySortedBy R (map (λ e. e.0) es)
+  unfolding IsStrictlySortedBy
+  sorted_keys [] h = tt
+  sorted_keys (e ∷ es) h = (above_all e.0 es (first_true (below_all R e.0 es) (is_sorted R es) h), sorted_keys es (second_true (below_all R e.0 es) (is_sorted R es) h))
+
+  -- a finite map's keys ascend
+  pub keys_sorted : (m : FinMap R X) → IsStrictlySortedBy R (keys m)
+  keys_sorted m = sorted_keys (entries m) (entries_sorted m)
