@@ -1,0 +1,34 @@
+-- The status and the line of an ending.
+use Rattle.std.specs.Prelude.{ℕ, List, [], ◌++◌, codes}
+use Rattle.std.specs.Fmt.{decimal}
+use Rattle.mt_fresh.specs.FaultText.{text_of}
+use Rattle.metro_program.specs.declared.ending.Ending.{Ending}
+use Rattle.metro_program.specs.declared.ending.Ending.TheVariants as ending
+use Rattle.metro_program.specs.declared.ending.Limit.{Limit}
+use Rattle.metro_program.specs.declared.ending.Limit.TheVariants.{File, Files, FolderBytes}
+
+-- the status of an ending
+abbrev pub status_of : Ending → ℕ
+status_of ending.Done = 0
+status_of (ending.Refused fault) = 1
+status_of (ending.BadWord at) = 2
+status_of ending.ReadFailed = 3
+status_of ending.WriteFailed = 4
+status_of ending.NoMemory = 5
+status_of (ending.Limit limit) = 6
+
+-- the line of a limit
+abbrev pub limit_of : Limit → List ℕ
+limit_of File = codes "metro: limit file 16777216\n"
+limit_of Files = codes "metro: limit files 262144\n"
+limit_of FolderBytes = codes "metro: limit folder-bytes 1073741824\n"
+
+-- the line of an ending on the log
+abbrev pub line_of : Ending → List ℕ
+line_of ending.Done = []
+line_of (ending.Refused fault) = codes "metro: " ++ text_of fault ++ codes "\n"
+line_of (ending.BadWord at) = codes "metro: word " ++ decimal at ++ codes "\n"
+line_of ending.ReadFailed = codes "metro: read failed\n"
+line_of ending.WriteFailed = codes "metro: write failed\n"
+line_of ending.NoMemory = codes "metro: out of memory\n"
+line_of (ending.Limit limit) = limit_of limit

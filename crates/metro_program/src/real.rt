@@ -1,0 +1,216 @@
+//! The real folder, store and streams. They tell nothing of what they hold.
+ghost use Rattle.std.specs.Prelude.{◌≡◌, ◌≤◌, None};
+ghost use Rattle.mt_io.specs.Causes.{Rose};
+
+use mt_io::{Failed, Folder, Named, NamedKind, NamedList, Sink, Source, Store, Trouble};
+use mt_path::Path;
+use mt_tokens::{Bytes, Text};
+use std::alloc::{AllocError, Global};
+use std::fs;
+use std::io::{self, ErrorKind, Read, Write};
+use std::rt::Files;
+
+/// A folder of the file system.
+#[derive(Drop)]
+pub struct RealFolder<'a> {
+    rt: &'a HostRuntime,
+    root: &'a str,
+    faults: u64,
+}
+
+impl<'a> RealFolder<'a> {
+    /// The folder at `root`, a path of the file system.
+    pub fn new(rt: &'a HostRuntime, root: &'a str) -> RealFolder<'a> {
+        RealFolder {
+            rt,
+            root,
+            faults: 0,
+        }
+    }
+
+    // Where a path stands in the file system.
+    fn place(&self, alloc: Global, path: &Path) -> Result<String, AllocError> {
+        let mut place = String::from_str(alloc, self.root)?;
+        place.push_str(path.as_str())?;
+        Ok(place)
+    }
+
+    // A name that isn't UTF-8 is no segment of a path: it is left out.
+    fn names(&self, alloc: Global, place: &str) -> io::Result<NamedList> {
+        let mut names = NamedList::new(alloc);
+        for entry in fs::read_dir(self.rt, place)? {
+            let entry = match entry {
+                Ok(entry) => entry,
+                Err(error) => {
+                    if error.kind() == ErrorKind::InvalidFilename {
+                        continue;
+                    }
+                    return Err(error);
+                }
+            };
+            let file_type = entry.file_type()?;
+            let kind = if file_type.is_file() {
+                NamedKind::File
+            } else if file_type.is_dir() {
+                NamedKind::Folder
+            } else {
+                NamedKind::Other
+            };
+            let name = Text::from_str(alloc, entry.file_name())?;
+            names.push(Named { name, kind })?;
+        }
+        Ok(names)
+    }
+
+    // A fault is counted; want of memory is none.
+    fn trouble(&mut self, error: io::Error) -> Trouble
+        ensures later { self.old.faults ≤ self.new.faults }
+        ensures failed { result ≡ Trouble.Failed → Rose self.old.faults self.new.faults }
+    {
+        if error.kind() == ErrorKind::OutOfMemory {
+            return Trouble::NoMemory;
+        }
+        self.faults = self.faults.saturating_add(1);
+        Trouble::Failed
+    }
+}
+
+impl Folder for RealFolder<'_> {
+    ghost count = { λ f. f.faults };
+
+    ghost told = { λ _. None };
+
+    fn faults(&self) -> u64 {
+        self.faults
+    }
+
+    fn list(&mut self, alloc: Global, folder: &Path) -> Result<NamedList, Trouble> {
+        let Ok(place) = self.place(alloc, folder) else {
+            return Err(Trouble::NoMemory);
+        };
+        match self.names(alloc, place.as_str()) {
+            Ok(names) => Ok(names),
+            Err(error) => Err(self.trouble(error)),
+        }
+    }
+
+    fn read(&mut self, alloc: Global, path: &Path) -> Result<Bytes, Trouble> {
+        let Ok(place) = self.place(alloc, path) else {
+            return Err(Trouble::NoMemory);
+        };
+        match fs::read(self.rt, place.as_str()) {
+            Ok(bytes) => Ok(Bytes::from_vec(bytes)),
+            Err(error) => Err(self.trouble(error)),
+        }
+    }
+
+    fn write(&mut self, alloc: Global, path: &Path, bytes: &[u8]) -> Result<(), Trouble> {
+        let Ok(place) = self.place(alloc, path) else {
+            return Err(Trouble::NoMemory);
+        };
+        match fs::write(self.rt, place.as_str(), bytes) {
+            Ok(()) => Ok(()),
+            Err(error) => Err(self.trouble(error)),
+        }
+    }
+}
+
+/// A store that keeps nothing and never fails.
+#[derive(Clone, Copy, Debug, PartialEq, Eq)]
+pub struct NoStore;
+
+impl Store for NoStore {
+    ghost count = { λ _. 0 };
+
+    ghost told = { λ _. None };
+
+    fn faults(&self) -> u64 {
+        0
+    }
+
+    fn get(&mut self, _alloc: Global, _key: &Text) -> Result<Option<Bytes>, Trouble> {
+        Ok(None)
+    }
+
+    fn put(&mut self, _alloc: Global, _key: &Text, _bytes: &[u8]) -> Result<(), Trouble> {
+        Ok(())
+    }
+}
+
+/// A source over a reader of std.
+#[derive(Drop)]
+pub struct RealSource<R: Read> {
+    reader: R,
+    faults: u64,
+}
+
+impl<R: Read> RealSource<R> {
+    /// What the reader gives.
+    pub fn new(reader: R) -> RealSource<R> {
+        RealSource { reader, faults: 0 }
+    }
+}
+
+impl<R: Read> Source for RealSource<R> {
+    ghost count = { λ s. s.faults };
+
+    ghost told = { λ _. None };
+
+    ghost beside = { λ _. None };
+
+    fn faults(&self) -> u64 {
+        self.faults
+    }
+
+    fn read(&mut self, into: &mut [u8]) -> Result<usize, Failed> {
+        match self.reader.read(into) {
+            Ok(count) => Ok(count),
+            Err(_) => {
+                self.faults = self.faults.saturating_add(1);
+                Err(Failed)
+            }
+        }
+    }
+}
+
+/// A sink over a writer of std. A write that takes nothing is a fault.
+#[derive(Drop)]
+pub struct RealSink<W: Write> {
+    writer: W,
+    faults: u64,
+}
+
+impl<W: Write> RealSink<W> {
+    /// What the writer takes.
+    pub fn new(writer: W) -> RealSink<W> {
+        RealSink { writer, faults: 0 }
+    }
+}
+
+impl<W: Write> Sink for RealSink<W> {
+    ghost count = { λ s. s.faults };
+
+    ghost told = { λ _. None };
+
+    ghost beside = { λ _. None };
+
+    fn faults(&self) -> u64 {
+        self.faults
+    }
+
+    fn write(&mut self, bytes: &[u8]) -> Result<usize, Failed> {
+        match self.writer.write(bytes) {
+            Ok(count) => {
+                if count == 0 && !bytes.is_empty() {
+                    self.faults = self.faults.saturating_add(1);
+                    return Err(Failed);
+                }
+                Ok(count)
+            }
+            Err(_) => {
+                self.faults = self.faults.saturating_add(1);
+                Err(Failed)
+            }
+        }
+    }
+}

@@ -1,0 +1,242 @@
+//! Whole runs over objects in memory.
+use crate::real::NoStore;
+use crate::still::metro_still;
+use mt_io::{FreeGate, ListSource, MapFolder, VecSink};
+use mt_path::Path;
+use mt_tokens::{Bytes, Text};
+use std::alloc::{AllocError, Global};
+use std::collections::BTreeMap;
+use std::thread::Threads;
+
+/// What stands before the modules of a bundle for development.
+const PRELUDE: &str = "var __DEV__=true;
+(function(global){
+var defs={},done={};
+function define(f,id,deps){defs[id]={f:f,deps:deps};delete done[id];}
+function run(id){
+if(id===null)return {};
+if(done[id])return done[id].exports;
+var d=defs[id];
+if(!d)throw new Error(\"unknown module \"+id);
+var m=done[id]={exports:{}};
+d.f(global,run,importDefault,importAll,m,m.exports,d.deps);
+return m.exports;
+}
+function importDefault(id){var e=run(id);return e&&e.__esModule?e.default:e;}
+function importAll(id){var e=run(id);if(e&&e.__esModule)return e;var r={};for(var k in e)r[k]=e[k];r.default=e;return r;}
+global.__d=define;global.__r=run;
+global.__exportAll=function(t,e){for(var k in e)if(k!==\"default\")t[k]=e[k];};
+})(typeof globalThis!==\"undefined\"?globalThis:this);
+";
+
+/// What stands before the body of a module.
+const HEAD: &str =
+    "__d(function (global, require, importDefault, importAll, module, exports, dependencyMap) {\n";
+
+/// What a run is given: files by their paths, words, and the numbers of the calls that fail.
+#[derive(Clone, Copy)]
+struct Given<'a> {
+    files: &'a [(&'a str, &'a str)],
+    words: &'a [&'a str],
+    folder_failing: &'a [u64],
+    out_failing: &'a [u64],
+    log_failing: &'a [u64],
+    room: usize,
+}
+
+/// A run over these files with these words, in which nothing fails.
+fn nothing_fails<'a>(files: &'a [(&'a str, &'a str)], words: &'a [&'a str]) -> Given<'a> {
+    Given {
+        files,
+        words,
+        folder_failing: &[],
+        out_failing: &[],
+        log_failing: &[],
+        room: 65536,
+    }
+}
+
+fn tree(alloc: Global, files: &[(&str, &str)]) -> Result<BTreeMap<Path, Bytes>, AllocError> {
+    let mut tree = BTreeMap::new(alloc);
+    for (path, text) in files {
+        let Ok(path) = Path::parse(alloc, path) else {
+            return Err(AllocError);
+        };
+        tree.insert(path, Bytes::from_slice(alloc, text.as_bytes())?)?;
+    }
+    Ok(tree)
+}
+
+fn texts(alloc: Global, words: &[&str]) -> Result<Vec<Text>, AllocError> {
+    let mut texts = Vec::new(alloc);
+    for word in words {
+        texts.push(Text::from_str(alloc, word)?)?;
+    }
+    Ok(texts)
+}
+
+/// What a run left: its status, the output and the log.
+#[derive(Drop)]
+struct Outcome {
+    status: u8,
+    out: VecSink,
+    log: VecSink,
+}
+
+fn run<R: Threads + Sync>(rt: &R, alloc: Global, given: Given<'_>) -> Result<Outcome, AllocError> {
+    let words = texts(alloc, given.words)?;
+    let failing = Vec::from_slice(alloc, given.folder_failing)?;
+    let mut folder = MapFolder::new(tree(alloc, given.files)?, failing);
+    let mut script = ListSource::new(Vec::new(alloc), Vec::new(alloc));
+    let mut out = VecSink::new(
+        alloc,
+        given.room,
+        Vec::from_slice(alloc, given.out_failing)?,
+    )?;
+    let mut log = VecSink::new(alloc, 4096, Vec::from_slice(alloc, given.log_failing)?)?;
+    let status = metro_still(
+        rt,
+        alloc,
+        words.as_slice(),
+        &mut folder,
+        NoStore,
+        &mut script,
+        &mut out,
+        &mut log,
+        &FreeGate,
+    );
+    Ok(Outcome { status, out, log })
+}
+
+/// Whether a run left this status, these pieces on the output one after another, and this on the log.
+fn left(ran: &Outcome, status: u8, pieces: &[&str], log: &str) -> bool {
+    let mut rest = ran.out.bytes();
+    for piece in pieces {
+        let Some(more) = rest.strip_prefix(piece.as_bytes()) else {
+            return false;
+        };
+        rest = more;
+    }
+    ran.status == status && rest.is_empty() && ran.log.bytes() == log.as_bytes()
+}
+
+#[test]
+fn a_lone_entry_is_bundled(rt: HostRuntime) {
+    let files = [("/index.js", "x();")];
+    let ran = run(
+        &rt,
+        rt.alloc(),
+        nothing_fails(&files, &["bundle", "index.js"]),
+    )
+    .expect(&rt, "memory");
+    let pieces = [PRELUDE, HEAD, "x();\n},0,[],\"index.js\");\n__r(0);\n"];
+    assert!(rt; left(&ran, 0, &pieces, ""));
+}
+
+#[test]
+fn modules_that_require_each_other_are_bundled(rt: HostRuntime) {
+    let files = [
+        ("/a.js", "require(\"./b.js\");require(\"./a.js\");"),
+        ("/b.js", "require(\"./a.js\");require(\"./b.js\");"),
+    ];
+    let body = "require(dependencyMap[0]);require(dependencyMap[1]);\n";
+    let pieces = [
+        PRELUDE,
+        HEAD,
+        body,
+        "},0,[1,0],\"a.js\");\n",
+        HEAD,
+        body,
+        "},1,[0,1],\"b.js\");\n__r(0);\n",
+    ];
+    let ran = run(&rt, rt.alloc(), nothing_fails(&files, &["bundle", "a.js"])).expect(
+        &rt, "memory",
+    );
+    assert!(rt; left(&ran, 0, &pieces, ""));
+}
+
+#[test]
+fn a_refusal_names_its_cause(rt: HostRuntime) {
+    for (files, log) in [
+        (
+            [("/b.js", "1;"), ("/c.js", "1;")],
+            "metro: entry /a.js is not a source file\n",
+        ),
+        (
+            [("/a.js", "x = 1 / 2;"), ("/b.js", "1;")],
+            "metro: /a.js:6: not built yet\n",
+        ),
+        (
+            [("/a.js", "require(\"./c.js\");"), ("/b.js", "1;")],
+            "metro: /a.js:8: cannot resolve \"./c.js\"\n",
+        ),
+        (
+            [("/a.js", "require(\"./b.js\");\n)"), ("/b.js", "\"")],
+            "metro: /a.js:19: syntax: unbalanced bracket\n",
+        ),
+        (
+            [("/a.js", "require(\"./b.js\");"), ("/b.js", "'x")],
+            "metro: /b.js:0: syntax: unclosed string\n",
+        ),
+        (
+            [("/a.js", "f(\n/*"), ("/b.js", "1;")],
+            "metro: /a.js:3: syntax: unclosed comment\n",
+        ),
+    ] {
+        let ran = run(&rt, rt.alloc(), nothing_fails(&files, &["bundle", "a.js"])).expect(
+            &rt, "memory",
+        );
+        assert!(rt; left(&ran, 1, &[], log), "{log}");
+    }
+}
+
+#[test]
+fn the_first_bad_word_is_named(rt: HostRuntime) {
+    for (words, log) in [
+        (["", "", ""].get(..0), "metro: word 1\n"),
+        (["deps", "a.js", ""].get(..2), "metro: word 1\n"),
+        (["bundle", "", ""].get(..1), "metro: word 2\n"),
+        (["bundle", "-a.js", ""].get(..2), "metro: word 2\n"),
+        (["bundle", "./a.js", ""].get(..2), "metro: word 2\n"),
+        (["bundle", "/", "b.js"].get(..3), "metro: word 2\n"),
+        (["bundle", "a.js", "b.js"].get(..3), "metro: word 3\n"),
+    ] {
+        let words = words.expect(&rt, "words");
+        let ran = run(&rt, rt.alloc(), nothing_fails(&[("/a.js", "1;")], words)).expect(
+            &rt, "memory",
+        );
+        assert!(rt; left(&ran, 2, &[], log), "{log}");
+    }
+}
+
+#[test]
+fn a_fault_of_the_outside_ends_the_run(rt: HostRuntime) {
+    let files = [("/index.js", "x();")];
+    let calm = nothing_fails(&files, &["bundle", "index.js"]);
+    for at in [1, 2] {
+        let failing = [at];
+        let given = Given {
+            folder_failing: &failing,
+            ..calm
+        };
+        let ran = run(&rt, rt.alloc(), given).expect(&rt, "memory");
+        assert!(rt; left(&ran, 3, &[], "metro: read failed\n"));
+    }
+    let given = Given {
+        out_failing: &[1],
+        ..calm
+    };
+    let ran = run(&rt, rt.alloc(), given).expect(&rt, "memory");
+    assert!(rt; left(&ran, 4, &[], "metro: write failed\n"));
+}
+
+#[test]
+fn a_fault_of_the_log_changes_no_status(rt: HostRuntime) {
+    let calm = nothing_fails(&[], &["bundle", "index.js"]);
+    let given = Given {
+        log_failing: &[1],
+        ..calm
+    };
+    let ran = run(&rt, rt.alloc(), given).expect(&rt, "memory");
+    assert!(rt; left(&ran, 1, &[], ""));
+}
