@@ -1,6 +1,6 @@
 -- Which modules the entries reach: the ends of walks.
 use Rattle.std.specs.Prelude.{ℕ, zero, suc, Bool, false, ◌||◌, List, [], ◌∷◌, filter}
-use Rattle.std.specs.List.{list_any, flat_map, Contains}
+use Rattle.std.specs.List.{list_any, flat_map}
 use Rattle.std.specs.Str.{bytes_eq}
 use Rattle.std.specs.FinMap.{keys, len}
 use Rattle.mt_fresh.specs.Snapshots.{Snapshot, has_source}
@@ -16,12 +16,6 @@ abbrev pub is_end_within : Snapshot → List (List ℕ) → ℕ → List ℕ →
 is_end_within files entries zero path = false
 is_end_within files entries (suc n) path = list_any (bytes_eq path) (ends files entries n) || is_end_within files entries n path
 
--- the modules that the entries reach, ascending: a walk with as many edges as there are files reaches nothing more
+-- the modules that the entries reach, ascending: longer walks reach nothing more (`law_of_reach`)
 abbrev pub reach : Snapshot → List (List ℕ) → List (List ℕ)
 reach files entries = filter (is_end_within files entries (len files)) (keys files)
-
--- a list of paths in which each next path is one that the module before requires
-abbrev pub IsWalk : Snapshot → List (List ℕ) → Type 0
-IsWalk files [] = ⊥
-IsWalk files (p ∷ []) = Unit {0}
-IsWalk files (p ∷ q ∷ rest) = Contains (edges files p) q × IsWalk files (q ∷ rest)

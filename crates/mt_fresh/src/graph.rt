@@ -1,5 +1,5 @@
 //! The modules of a build.
-ghost use Rattle.std.specs.Prelude.{◌≡◌, [], ◌∷◌, ◌++◌, length, IfOk, OnOk, OnErr, IfNone};
+ghost use Rattle.std.specs.Prelude.{◌≡◌, [], ◌∷◌, ◌++◌, length, IfOk, OnOk, OnErr, IfNone, IsTrue, ◌↔◌};
 ghost use Rattle.std.specs.Option.{option_map_or, option_copied};
 ghost use Rattle.std.specs.FinMap as map;
 
@@ -120,6 +120,20 @@ impl Graph {
         Graph {
             modules: BTreeMap::new(alloc),
         }
+    }
+
+    /// How many modules there are.
+    pub fn len(&self) -> usize
+        ensures len { result ≡ map.len self.now }
+    {
+        self.modules.len()
+    }
+
+    /// Whether there are no modules.
+    pub fn is_empty(&self) -> bool
+        ensures empty { IsTrue result ↔ (map.len self.now ≡ 0) }
+    {
+        self.len() == 0
     }
 
     /// The module at a path.

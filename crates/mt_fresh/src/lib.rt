@@ -23,4 +23,4 @@ pub use mt_files::{CrawlFault, Entry, FileMap, MOST_BYTES, MOST_FILES, MOST_SOUR
 pub use mt_resolve::{Resolution, Target, resolve};
 pub use mt_transform::{BuildFault, Options, Output, path_kind, transform};
 pub use mt_write::{module_text, write_head, write_module, write_start};
-pub use traversal::{MOST_MODULES, traverse};
+pub use traversal::{MOST_MODULES, law_of_reach, traverse};

@@ -1,9 +1,11 @@
 //! The traversal of a snapshot from its entries.
-ghost use Rattle.std.specs.Prelude.{◌≡◌, ◌≤◌, ◌<◌, ◌⊎◌, ◌++◌, [], ◌∷◌, length, IfOk, Some, None, OnOk};
-ghost use Rattle.std.specs.List.{filter_map, flat_map, slice_get, IsDistinct};
+ghost use Rattle.std.specs.Prelude.{◌≡◌, ◌≤◌, ◌<◌, ◌⊎◌, ◌++◌, [], ◌∷◌, ℕ, List, true, length, IfOk, Some, None, OnOk};
+ghost use Rattle.std.specs.List.{filter_map, list_any, slice_get, IsDistinct};
 ghost use Rattle.std.specs.Str.{bytes_eq};
 ghost use Rattle.std.specs.Option.{option_or, option_map_or, option_to_list};
 ghost use Rattle.mt_fresh.specs.Fresh.{fresh};
+ghost use Rattle.mt_fresh.specs.Reach.{ends, reach};
+ghost use Rattle.mt_fresh.specs.Snapshots.{Snapshot};
 ghost use Rattle.mt_tokens.specs.Deps.{Dependency};
 ghost use Rattle.mt_fresh.specs.Output.{IsSure, source_dependencies};
 ghost use Rattle.mt_fresh.specs.Resolve.{resolved};
@@ -221,3 +223,10 @@ pub fn traverse(
     }
     rows.settle(alloc)
 }
+
+/// Does nothing, and carries a law: the modules that the entries reach are the ends of all walks from them, however long,
+/// and no others.
+pub fn law_of_reach()
+    ensures all { (files : Snapshot) (entries : List (List ℕ)) (n : ℕ) (path : List ℕ) → list_any (bytes_eq path) (ends files entries n) ≡ true → list_any (bytes_eq path) (reach files entries) ≡ true }
+    ensures alone { (files : Snapshot) (entries : List (List ℕ)) (path : List ℕ) → list_any (bytes_eq path) (reach files entries) ≡ true → (n : ℕ) × (list_any (bytes_eq path) (ends files entries n) ≡ true) }
+{}

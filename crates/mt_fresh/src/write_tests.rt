@@ -142,6 +142,8 @@ fn two_modules(rt: &(impl Abort + AllocGlobal)) -> Graph {
 #[test]
 fn entries_have_the_first_numbers(rt: HostRuntime) {
     let graph = two_modules(&rt);
+    assert!(rt; !graph.is_empty());
+    assert!(rt; graph.len() <= 65536);
     let entries = [path(&rt, "/z.js")];
     let options = Options { dev: true };
     let mut whole = sink(&rt, &[]);
