@@ -1,13 +1,13 @@
 -- What a run writes and how it ends, for the words and the files of a folder.
 use Rattle.std.specs.Prelude.{◌≡◌, ◌<◌, ◌⊎◌, ℕ, true, List, [], ◌∷◌, Result, Ok, Err, Option}
 use Rattle.mt_io.specs.Files.{Files}
-use Rattle.mt_fresh.specs.Snapshots.{Snapshot}
-use Rattle.mt_fresh.specs.Crawl.{crawled}
-use Rattle.mt_fresh.specs.Fresh.{GraphMap, fresh}
+use Rattle.mt_files.specs.Snapshots.{Snapshot}
+use Rattle.mt_files.specs.Crawl.{crawled}
+use Rattle.mt_fresh.specs.Graphs.{GraphMap, fresh_graph}
 use Rattle.mt_fresh.specs.Bundle.{bundle_of}
-use Rattle.mt_fresh.specs.declared.mt_transform.BuildFault.{BuildFault}
-use Rattle.mt_fresh.specs.declared.mt_files.fault.CrawlFault.{CrawlFault}
-use Rattle.mt_fresh.specs.declared.mt_files.fault.CrawlFault.TheVariants as crawl
+use Rattle.mt_files.specs.declared.build_fault.BuildFault.{BuildFault}
+use Rattle.mt_files.specs.declared.fault.CrawlFault.{CrawlFault}
+use Rattle.mt_files.specs.declared.fault.CrawlFault.TheVariants as crawl
 use Rattle.metro_program.specs.declared.ending.Ending.{Ending}
 use Rattle.metro_program.specs.declared.ending.Ending.TheVariants.{Done, Refused, BadWord, ReadFailed, WriteFailed, NoMemory, Limit}
 use Rattle.metro_program.specs.declared.ending.Limit.TheVariants.{File, Files as MostFiles, FolderBytes}
@@ -39,7 +39,7 @@ graph_plan entry (Err fault) = without_bytes (Refused fault)
 
 -- the plan of an entry and a snapshot
 abbrev pub bundle_plan : List ℕ → Result Snapshot CrawlFault → Plan
-bundle_plan entry (Ok files) = graph_plan entry (fresh files (entry ∷ []))
+bundle_plan entry (Ok files) = graph_plan entry (fresh_graph files (entry ∷ []))
 bundle_plan entry (Err fault) = without_bytes (crawl_ending fault)
 
 -- the plan of what the words ask for

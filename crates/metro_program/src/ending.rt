@@ -2,7 +2,8 @@
 ghost use Rattle.std.specs.Prelude.{◌≡◌, IfOk};
 ghost use Rattle.metro_program.specs.Ending.{status_of, line_of, limit_of};
 
-use mt_fresh::{BuildFault, fault_text};
+use mt_files::BuildFault;
+use mt_fresh::fault_text;
 use mt_tokens::Text;
 use std::alloc::{AllocError, Global};
 

@@ -3,16 +3,17 @@ ghost use Rattle.std.specs.Prelude.{◌≡◌, ◌≤◌, ◌⊎◌, [], ◌∷�
 ghost use Rattle.mt_io.specs.Causes.{Rose};
 ghost use Rattle.mt_io.specs.Told.{Grows, GrowsByPrefix};
 ghost use Rattle.mt_io.specs.Files.{Files};
-ghost use Rattle.mt_fresh.specs.Snapshots.{Snapshot};
-ghost use Rattle.mt_fresh.specs.Fresh.{fresh};
-ghost use Rattle.mt_fresh.specs.Crawl.{crawled};
+ghost use Rattle.mt_files.specs.Snapshots.{Snapshot};
+ghost use Rattle.mt_fresh.specs.Graphs.{fresh_graph};
+ghost use Rattle.mt_files.specs.Crawl.{crawled};
 ghost use Rattle.metro_program.specs.Words.{words_of};
 ghost use Rattle.metro_program.specs.Ending.{status_of, line_of};
 ghost use Rattle.metro_program.specs.Still.{still, bundle_plan, graph_plan, crawl_ending, IsAnswer, IsAnswered, IsBadWord, IsRefusedUnread, IsFaultLine};
 
 use crate::ending::{Ending, Limit};
 use crate::words::read_words;
-use mt_fresh::{BuildFault, CrawlFault, FileMap, Options, crawl, traverse, write_bundle};
+use mt_files::{BuildFault, CrawlFault, FileMap, crawl};
+use mt_fresh::{Options, traverse, write_bundle};
 use mt_io::{Folder, Gate, Sink, Source, Store, Trouble, send_all};
 use mt_path::Path;
 use mt_tokens::Text;
@@ -37,9 +38,9 @@ fn unread(fault: &CrawlFault) -> Ending
 
 /// Writes the bundle of an entry over a snapshot.
 fn bundle_files<O: Sink>(alloc: Global, entry: Path, files: &FileMap, out: &mut O) -> Ending
-    ensures ending { IsAnswer result → result ≡ (graph_plan entry (fresh files.now (entry ∷ []))).ending }
-    ensures bytes { IsAnswer result → Grows (O.told out.old) (O.told out.new) (graph_plan entry (fresh files.now (entry ∷ []))).bytes }
-    ensures part { GrowsByPrefix (O.told out.old) (O.told out.new) (graph_plan entry (fresh files.now (entry ∷ []))).bytes }
+    ensures ending { IsAnswer result → result ≡ (graph_plan entry (fresh_graph files.now (entry ∷ []))).ending }
+    ensures bytes { IsAnswer result → Grows (O.told out.old) (O.told out.new) (graph_plan entry (fresh_graph files.now (entry ∷ []))).bytes }
+    ensures part { GrowsByPrefix (O.told out.old) (O.told out.new) (graph_plan entry (fresh_graph files.now (entry ∷ []))).bytes }
     ensures write { result ≡ Ending.WriteFailed → Rose (O.count out.old) (O.count out.new) }
     ensures read { result ≡ Ending.ReadFailed → ⊥ }
     ensures apart { O.beside out.new ≡ O.beside out.old }

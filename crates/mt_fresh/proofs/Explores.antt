@@ -9,16 +9,16 @@ use Rattle.std.specs.FinMap.{FinMap, get, insert, empty, keys, find, from_entrie
 use Rattle.std.proofs.lemmas.Bool.{or_cases, or_left, or_right, cases_Bool, both_ways, false≢true, cond-true, cond-false}
 use Rattle.std.proofs.lemmas.List.Folds.{list_any-append}
 use Rattle.std.proofs.lemmas.Map.Text.{is_eq-slice_cmp}
-use Rattle.mt_fresh.specs.Snapshots.{Snapshot, has_source, source_at}
-use Rattle.mt_fresh.specs.Resolve.{resolved}
-use Rattle.mt_fresh.specs.Output.{dependencies_of}
+use Rattle.mt_files.specs.Snapshots.{Snapshot, has_source, source_at}
+use Rattle.mt_files.specs.Resolve.{resolved}
+use Rattle.mt_files.specs.Edges.{dependencies_of}
 use Rattle.mt_tokens.specs.Transform.{transformed}
-use Rattle.mt_fresh.specs.Edges.{edges, kind_of}
-use Rattle.mt_fresh.specs.Reach.{ends, reach}
-use Rattle.mt_fresh.specs.Fresh.{ascending, members}
+use Rattle.mt_files.specs.Edges.{edges, kind_of}
+use Rattle.mt_files.specs.Reach.{ends, reach}
+use Rattle.mt_files.specs.Fresh.{ascending, members}
 use Rattle.mt_fresh.specs.Rows.{row, rows_of}
 use Rattle.mt_fresh.specs.declared.rows.Row.{Row}
-use Rattle.mt_fresh.proofs.Reaches.{Has, has_self, has_head, has_flat_map, has_filter, filter_has, flat_map_has, same_path, end_is_reached, reached_is_end, has_key}
+use Rattle.mt_files.proofs.Reaches.{Has, has_self, has_head, has_flat_map, has_filter, filter_has, flat_map_has, same_path, end_is_reached, reached_is_end, has_key}
 
 abbrev pub RowMap : Type 0
 RowMap = FinMap (slice_cmp nat_cmp) Row

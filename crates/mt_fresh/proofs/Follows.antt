@@ -10,15 +10,16 @@ use Rattle.mt_tokens.specs.Deps.{Dependency}
 use Rattle.mt_tokens.specs.Transform.{Transformed, transformed}
 use Rattle.mt_tokens.specs.declared.source.SourceFault.{SourceFault}
 use Rattle.mt_tokens.specs.declared.source.PathKind.{PathKind}
-use Rattle.mt_fresh.specs.Snapshots.{Snapshot, source_at}
-use Rattle.mt_fresh.specs.Resolve.{resolved}
-use Rattle.mt_fresh.specs.Edges.{unresolved, edges, kind_of}
+use Rattle.mt_files.specs.Snapshots.{Snapshot, source_at}
+use Rattle.mt_files.specs.Resolve.{resolved}
+use Rattle.mt_files.specs.Edges.{unresolved, edges, kind_of}
 use Rattle.mt_fresh.specs.Rows.{row, made_row, first_or_made, output_faults}
 use Rattle.mt_fresh.specs.declared.rows.Row.TheVariants.{Made, Refused}
-use Rattle.mt_fresh.specs.Output.{IsSure, output_of, output_made, dependencies_of, source_dependencies}
+use Rattle.mt_files.specs.Edges.{dependencies_of}
+use Rattle.mt_fresh.specs.Output.{IsSure, output_of, output_made, source_dependencies}
 use Rattle.mt_fresh.specs.declared.mt_transform.Output.{Output}
-use Rattle.mt_fresh.specs.declared.mt_transform.BuildFault.{BuildFault}
-use Rattle.mt_fresh.specs.declared.mt_transform.BuildFault.TheVariants.{EntryMissing}
+use Rattle.mt_files.specs.declared.build_fault.BuildFault.{BuildFault}
+use Rattle.mt_files.specs.declared.build_fault.BuildFault.TheVariants.{EntryMissing}
 
 -- the faults of some dependencies
 abbrev pub faults_from : Snapshot → List ℕ → List Dependency → List BuildFault

@@ -1,13 +1,6 @@
-pub mod Reaches
-pub mod Kept
 pub mod Follows
 pub mod Explores
 pub mod Settles
-pub mod Bounds
-pub mod Below
-pub mod Gathered
-pub mod Laws
-pub mod Takes
 pub mod Names
 pub mod Required
 pub mod Readings

@@ -15,8 +15,8 @@ use Rattle.std.proofs.lemmas.List.Folds.{position_or_len_push}
 use Rattle.std.proofs.lemmas.List.Sums.{prefix_len-le-length}
 use Rattle.std.proofs.lemmas.Map.Text.{is_eq-slice_cmp}
 use Rattle.mt_fresh.specs.Bundle.{AreNumbers, number_in, numbering, place_in}
-use Rattle.mt_fresh.specs.Fresh.{GraphMap}
-use Rattle.mt_fresh.proofs.Reaches.{same_path}
+use Rattle.mt_fresh.specs.Graphs.{GraphMap}
+use Rattle.mt_files.proofs.Reaches.{same_path}
 
 number_within : (ps : List (List ℕ)) (q : List ℕ) → number_in ps q ≤ length ps
 number_within ps q = prefix_len-le-length (λ x. not (bytes_eq q x)) ps

@@ -19,19 +19,21 @@ use Rattle.std.proofs.lemmas.Map.Made.{length-from_same_keys}
 use Rattle.std.proofs.lemmas.Map.Text.{is_eq-slice_cmp}
 use Rattle.mt_tokens.specs.Transform.{Transformed, transformed}
 use Rattle.mt_tokens.specs.declared.source.SourceFault.{SourceFault}
-use Rattle.mt_fresh.specs.Snapshots.{Snapshot, has_source, source_at}
-use Rattle.mt_fresh.specs.Edges.{kind_of, faults_at, made_faults, unresolved}
-use Rattle.mt_fresh.specs.Output.{output_of, output_made, dependencies_of}
-use Rattle.mt_fresh.specs.Reach.{reach, is_end_within}
-use Rattle.mt_fresh.specs.Fresh.{GraphMap, members, module_at, graph_of, decided, found_of}
+use Rattle.mt_files.specs.Snapshots.{Snapshot, has_source, source_at}
+use Rattle.mt_files.specs.Edges.{kind_of, faults_at, made_faults, unresolved}
+use Rattle.mt_files.specs.Edges.{dependencies_of}
+use Rattle.mt_fresh.specs.Output.{output_of, output_made}
+use Rattle.mt_files.specs.Reach.{reach, is_end_within}
+use Rattle.mt_files.specs.Fresh.{members, decided}
+use Rattle.mt_fresh.specs.Graphs.{GraphMap, module_at, graph_of, found_of}
 use Rattle.mt_fresh.specs.Rows.{row, rows_of, made_row, first_or_made, settled, with_module, refusal}
 use Rattle.mt_fresh.specs.declared.rows.Row.{Row}
 use Rattle.mt_fresh.specs.declared.rows.Row.TheVariants.{Made, Refused}
 use Rattle.mt_fresh.specs.declared.graph.Found.{Found}
 use Rattle.mt_fresh.specs.declared.mt_transform.Output.{Output}
-use Rattle.mt_fresh.specs.declared.mt_transform.BuildFault.{BuildFault}
-use Rattle.mt_fresh.specs.declared.mt_transform.BuildFault.TheVariants.{EntryMissing, Source}
-use Rattle.mt_fresh.proofs.Reaches.{Has, has_key, has_filter, filter_has, end_is_reached, reached_is_end, end_is_source, same_path, has_self}
+use Rattle.mt_files.specs.declared.build_fault.BuildFault.{BuildFault}
+use Rattle.mt_files.specs.declared.build_fault.BuildFault.TheVariants.{EntryMissing, Source}
+use Rattle.mt_files.proofs.Reaches.{Has, has_key, has_filter, filter_has, end_is_reached, reached_is_end, end_is_source, same_path, has_self}
 use Rattle.mt_fresh.proofs.Explores.{has_ascending, append_right}
 use Rattle.mt_io.proofs.Tables.{entries_table, keys_sorted}
 

@@ -8,16 +8,17 @@ use Rattle.std.specs.Cmp.Lexicographic.{slice_cmp, nat_list_cmp_total}
 use Rattle.std.specs.FinMap.{from_entries, insert, contains_key, keys, len, len-empty, len-insert, entries}
 use Rattle.std.proofs.lemmas.Bool.Decides.{nat_tests}
 use Rattle.mt_io.proofs.Tables.{entries_table, keys_sorted}
-use Rattle.mt_fresh.specs.Snapshots.{Snapshot, has_source, source_at}
-use Rattle.mt_fresh.specs.Edges.{faults_at, kind_of}
+use Rattle.mt_files.specs.Snapshots.{Snapshot, has_source, source_at}
+use Rattle.mt_files.specs.Edges.{faults_at, kind_of}
 use Rattle.mt_fresh.specs.Output.{output_of}
-use Rattle.mt_fresh.specs.Reach.{reach}
-use Rattle.mt_fresh.specs.Fresh.{GraphMap, all_faults, decided, found_of, fresh, graph_of, members, module_at}
+use Rattle.mt_files.specs.Reach.{reach}
+use Rattle.mt_files.specs.Fresh.{all_faults, decided, members}
+use Rattle.mt_fresh.specs.Graphs.{GraphMap, found_of, fresh_graph, graph_of, module_at}
 use Rattle.mt_fresh.specs.Rows.{row, rows_of}
 use Rattle.mt_fresh.specs.declared.rows.Row.{Row}
 use Rattle.mt_fresh.specs.declared.graph.Found.{Found}
-use Rattle.mt_fresh.specs.declared.mt_transform.BuildFault.{BuildFault}
-use Rattle.mt_fresh.specs.declared.mt_transform.BuildFault.TheVariants.{TooManyModules}
+use Rattle.mt_files.specs.declared.build_fault.BuildFault.{BuildFault}
+use Rattle.mt_files.specs.declared.build_fault.BuildFault.TheVariants.{TooManyModules}
 use Rattle.std.specs.List.Sorted.{IsStrictlySortedBy}
 use Rattle.mt_fresh.proofs.Settles.{count_members}
 
@@ -74,7 +75,7 @@ decided_by graph k [] false h = (refl, cc)
 decided_by graph k (f ∷ fs) false h = cc
 
 -- a fresh graph has at most 65,536 modules
-pub fresh_size : (files : Snapshot) (start : List (List ℕ)) (graph : GraphMap) → fresh files start ≡ Ok graph → len graph ≤ 65536
+pub fresh_size : (files : Snapshot) (start : List (List ℕ)) (graph : GraphMap) → fresh_graph files start ≡ Ok graph → len graph ≤ 65536
 fresh_size files start graph h =
     let d = decided_by graph (graph_of files start) (flat_map (faults_at files) (members files start)) (nat_lt 65536 (length (reach files start))) h in
     let few : length (reach files start) ≤ 65536 = let e = d.0 in grind (arith, nat_tests) in

@@ -6,7 +6,7 @@ use Rattle.std.specs.Str.{bytes_eq}
 use Rattle.std.specs.FinMap.{FinMap, get, keys}
 use Rattle.std.specs.Ordering.{nat_cmp}
 use Rattle.std.specs.Cmp.Lexicographic.{slice_cmp}
-use Rattle.mt_fresh.specs.Fresh.{GraphMap}
+use Rattle.mt_fresh.specs.Graphs.{GraphMap}
 use Rattle.mt_fresh.specs.Modules.{module_of, start_of}
 
 -- the paths by their numbers: the entries in their order, and then the other modules by path

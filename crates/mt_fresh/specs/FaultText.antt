@@ -6,8 +6,8 @@ use Rattle.mt_tokens.specs.declared.source.SourceFault.{SourceFault}
 use Rattle.mt_tokens.specs.declared.source.SourceFault.TheVariants as source
 use Rattle.mt_tokens.specs.declared.source.SyntaxFault.{SyntaxFault}
 use Rattle.mt_tokens.specs.declared.source.SyntaxFault.TheVariants as syntax
-use Rattle.mt_fresh.specs.declared.mt_transform.BuildFault.{BuildFault}
-use Rattle.mt_fresh.specs.declared.mt_transform.BuildFault.TheVariants.{EntryMissing, Source, Unresolved, TooManyModules, NoMemory}
+use Rattle.mt_files.specs.declared.build_fault.BuildFault.{BuildFault}
+use Rattle.mt_files.specs.declared.build_fault.BuildFault.TheVariants.{EntryMissing, Source, Unresolved, TooManyModules, NoMemory}
 
 -- a hexadecimal digit in lower case
 abbrev pub hex_digit : ℕ → ℕ

@@ -1,15 +1,8 @@
-pub mod Snapshots
-pub mod Resolve
-pub mod Edges
-pub mod Reach
-pub mod Fresh
+pub mod Graphs
 pub mod Modules
 pub mod Bundle
 pub mod FaultText
 pub mod Output
 pub mod Rows
-pub mod Crawl
-pub mod Faults
-pub mod Walks
 pub mod Dependencies
 pub mod Gather

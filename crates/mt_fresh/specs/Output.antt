@@ -1,11 +1,12 @@
 -- What a source becomes, as an output.
-use Rattle.std.specs.Prelude.{◌≡◌, ℕ, List, [], map, Result, Ok, Err}
+use Rattle.std.specs.Prelude.{◌≡◌, ℕ, List, map, Result, Ok, Err}
 use Rattle.std.specs.List.{slice_get}
 use Rattle.std.specs.Option.{option_map_or}
 use Rattle.mt_tokens.specs.Deps.{Dependency}
 use Rattle.mt_tokens.specs.Transform.{Transformed, transformed}
 use Rattle.mt_tokens.specs.declared.source.PathKind.{PathKind}
 use Rattle.mt_tokens.specs.declared.source.SourceFault.{SourceFault}
+use Rattle.mt_files.specs.Edges.{dependencies_of}
 use Rattle.mt_fresh.specs.declared.mt_transform.Output.{Output}
 
 -- the output for what a source became
@@ -20,11 +21,6 @@ output_of kind source = output_made kind source (transformed kind source)
 -- an output that is what its source becomes
 abbrev pub IsSure : Output → Type 0
 IsSure o = output_of o.kind o.source ≡ Ok o
-
--- the dependencies of what a source became
-abbrev pub dependencies_of : Result Transformed SourceFault → List Dependency
-dependencies_of (Ok t) = t.dependencies
-dependencies_of (Err f) = []
 
 -- the dependencies that the source of an output has
 abbrev pub source_dependencies : Output → List Dependency

@@ -3,17 +3,18 @@ use Rattle.std.specs.Prelude.{ℕ, List, [], ◌∷◌, Option, Some, None, Resu
 use Rattle.std.specs.List.{flat_map}
 use Rattle.std.specs.Option.{option_map_or}
 use Rattle.mt_tokens.specs.declared.source.SourceFault.{SourceFault}
-use Rattle.mt_fresh.specs.Snapshots.{Snapshot, source_at}
+use Rattle.mt_files.specs.Snapshots.{Snapshot, source_at}
 use Rattle.mt_fresh.specs.Output.{output_of, source_dependencies}
-use Rattle.mt_fresh.specs.Edges.{kind_of, unresolved}
+use Rattle.mt_files.specs.Edges.{kind_of, unresolved}
 use Rattle.std.specs.Prelude.{map}
 use Rattle.std.specs.Ordering.{nat_cmp}
 use Rattle.std.specs.Cmp.Lexicographic.{slice_cmp}
 use Rattle.std.specs.FinMap.{FinMap, from_entries, insert}
-use Rattle.mt_fresh.specs.Fresh.{GraphMap, found_of, members}
+use Rattle.mt_files.specs.Fresh.{members}
+use Rattle.mt_fresh.specs.Graphs.{GraphMap, found_of}
 use Rattle.mt_fresh.specs.declared.mt_transform.Output.{Output}
-use Rattle.mt_fresh.specs.declared.mt_transform.BuildFault.{BuildFault}
-use Rattle.mt_fresh.specs.declared.mt_transform.BuildFault.TheVariants.{EntryMissing, Source}
+use Rattle.mt_files.specs.declared.build_fault.BuildFault.{BuildFault}
+use Rattle.mt_files.specs.declared.build_fault.BuildFault.TheVariants.{EntryMissing, Source}
 use Rattle.mt_fresh.specs.declared.rows.Row.{Row}
 use Rattle.mt_fresh.specs.declared.rows.Row.TheVariants.{Made, Refused}
 

@@ -4,7 +4,7 @@ ghost use Rattle.std.specs.List.{flat_map};
 ghost use Rattle.std.proofs.Math.Utf8.{encode};
 ghost use Rattle.mt_fresh.specs.FaultText.{at_place, control_text, entry_text, hex_digit, quoted, quoted_byte, source_text, syntax_text, text_of, unresolved_text};
 
-use crate::mt_transform::BuildFault;
+use mt_files::BuildFault;
 use mt_path::Path;
 use mt_tokens::{SourceFault, SyntaxFault, Text};
 use std::alloc::{AllocError, Global};

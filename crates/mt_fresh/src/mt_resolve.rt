@@ -1,10 +1,10 @@
 //! Where a name leads.
 ghost use Rattle.std.specs.Prelude.{◌≡◌, IfOk};
 ghost use Rattle.std.specs.Option.{option_map_or};
-ghost use Rattle.mt_fresh.specs.Resolve.{begins_relative, is_exact, last_part, names_something, resolved};
+ghost use Rattle.mt_files.specs.Resolve.{begins_relative, is_exact, last_part, names_something, resolved};
 
-use crate::mt_files::FileMap;
 use crate::mt_transform::Options;
+use mt_files::FileMap;
 use mt_path::Path;
 use std::alloc::{AllocError, Global};
 

@@ -4,19 +4,18 @@ ghost use Rattle.std.specs.Str.{is_utf8};
 ghost use Rattle.std.specs.Str.Lossy.{utf8_valid_len};
 ghost use Rattle.mt_tokens.specs.Tokens.{tokens_of};
 ghost use Rattle.mt_tokens.specs.Transform.{transformed, refused, script_of, read_script, body_start, edited};
-ghost use Rattle.mt_fresh.specs.Edges.{kind_of};
+ghost use Rattle.mt_files.specs.Edges.{kind_of};
 ghost use Rattle.mt_fresh.specs.Output.{output_of, place_of};
 ghost use Rattle.mt_fresh.specs.Dependencies.{dependency_of, edit_of, made};
 
 use crate::mt_deps::{Dep, DepFault, DepList, Use, deps, part};
-use crate::mt_files::MOST_SOURCE_BYTES;
+use mt_files::MOST_SOURCE_BYTES;
 use mt_path::Path;
 use mt_tokens::{
     Bytes, PathKind, Shared, SourceFault, SyntaxFault, Text, TextList, TokenFault, TokenList,
     tokens,
 };
 use std::alloc::{AllocError, Global};
-use thiserror::Error;
 
 #[cfg(test)]
 mod tests;
@@ -39,37 +38,6 @@ pub struct Output {
     pub body: Bytes,
     /// The names that the source requires, each once, by the places where they are first.
     pub names: TextList,
-}
-
-/// Why a build is refused.
-#[derive(Debug, Drop, Error)]
-pub enum BuildFault {
-    /// An entry has no source in the snapshot.
-    #[error("entry {path} is not a source file")]
-    EntryMissing { path: Path },
-    /// A source is refused.
-    #[error("{path}: {fault}")]
-    Source { path: Path, fault: SourceFault },
-    /// A name leads to no source; the place is where its string begins, in bytes from 0.
-    #[error("{path}:{place}: cannot resolve {name}")]
-    Unresolved { path: Path, place: u32, name: Text },
-    /// The entries reach more than 65,536 modules.
-    #[error("more than 65536 modules")]
-    TooManyModules,
-    /// No memory for the build.
-    #[error("out of memory")]
-    NoMemory,
-}
-
-impl From<AllocError> for BuildFault {
-    ghost use Rattle.std.specs.Prelude.{◌≡◌};
-    ghost use Rattle.mt_fresh.specs.declared.mt_transform.BuildFault.TheVariants.{NoMemory};
-
-    ghost from_gives = { λ _ e. e ≡ NoMemory };
-
-    fn from(_: AllocError) -> BuildFault {
-        BuildFault::NoMemory
-    }
 }
 
 /// The kind of the source at a path.

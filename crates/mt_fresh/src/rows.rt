@@ -1,12 +1,11 @@
 //! What a traversal found, by path.
 ghost use Rattle.std.specs.Prelude.{◌≡◌, ◌⊎◌, IfOk, OnOk, OnErr, is_some, option_copied, length, filter};
-ghost use Rattle.mt_fresh.specs.Snapshots.{has_source};
+ghost use Rattle.mt_files.specs.Snapshots.{has_source};
 ghost use Rattle.mt_fresh.specs.Rows.{settled};
 ghost use Rattle.std.specs.FinMap as map;
 
 use crate::graph::{Found, Graph};
-use crate::mt_files::FileMap;
-use crate::mt_transform::BuildFault;
+use mt_files::{BuildFault, FileMap};
 use mt_path::Path;
 use std::alloc::{AllocError, Global};
 use std::collections::BTreeMap;

@@ -3,20 +3,18 @@ ghost use Rattle.std.specs.Prelude.{◌≡◌, ◌≤◌, ◌<◌, ◌⊎◌, �
 ghost use Rattle.std.specs.List.{filter_map, list_any, slice_get, IsDistinct};
 ghost use Rattle.std.specs.Str.{bytes_eq};
 ghost use Rattle.std.specs.Option.{option_or, option_map_or, option_to_list};
-ghost use Rattle.mt_fresh.specs.Fresh.{fresh};
-ghost use Rattle.mt_fresh.specs.Reach.{ends, reach};
-ghost use Rattle.mt_fresh.specs.Snapshots.{Snapshot};
+ghost use Rattle.mt_fresh.specs.Graphs.{fresh_graph};
 ghost use Rattle.mt_tokens.specs.Deps.{Dependency};
 ghost use Rattle.mt_fresh.specs.Output.{IsSure, source_dependencies};
-ghost use Rattle.mt_fresh.specs.Resolve.{resolved};
-ghost use Rattle.mt_fresh.specs.Edges.{edges, unresolved};
+ghost use Rattle.mt_files.specs.Resolve.{resolved};
+ghost use Rattle.mt_files.specs.Edges.{edges, unresolved};
 ghost use Rattle.mt_fresh.specs.Rows.{row, rows_of, output_faults};
 
 use crate::graph::{Found, Graph, PathList};
-use crate::mt_files::FileMap;
 use crate::mt_resolve::{Target, resolve};
-use crate::mt_transform::{BuildFault, Options, Output, path_kind, transform};
+use crate::mt_transform::{Options, Output, path_kind, transform};
 use crate::rows::{Row, Rows};
+use mt_files::{BuildFault, FileMap};
 use mt_path::Path;
 use mt_tokens::SourceFault;
 use std::alloc::{AllocError, Global};
@@ -215,7 +213,7 @@ pub fn traverse(
     requires some { 1 ≤ length entries.now }
     requires most { length entries.now ≤ 16 }
     requires distinct { IsDistinct bytes_eq entries.now }
-    ensures exact { (result ≡ Err BuildFault.NoMemory) ⊎ (result ≡ fresh files.now entries.now) }
+    ensures exact { (result ≡ Err BuildFault.NoMemory) ⊎ (result ≡ fresh_graph files.now entries.now) }
 {
     let rows = explore(alloc, files, options, entries)?;
     if rows.count_sources(files) > MOST_MODULES {
@@ -223,10 +221,3 @@ pub fn traverse(
     }
     rows.settle(alloc)
 }
-
-/// Does nothing, and carries a law: the modules that the entries reach are the ends of all walks from them, however long,
-/// and no others.
-pub fn law_of_reach()
-    ensures all { (files : Snapshot) (entries : List (List ℕ)) (n : ℕ) (path : List ℕ) → list_any (bytes_eq path) (ends files entries n) ≡ true → list_any (bytes_eq path) (reach files entries) ≡ true }
-    ensures alone { (files : Snapshot) (entries : List (List ℕ)) (path : List ℕ) → list_any (bytes_eq path) (reach files entries) ≡ true → (n : ℕ) × (list_any (bytes_eq path) (ends files entries n) ≡ true) }
-{}

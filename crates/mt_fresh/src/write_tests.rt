@@ -3,9 +3,10 @@ ghost use Rattle.std.specs.Prelude.{◌≡◌};
 
 use crate::mt_resolve::resolve;
 use crate::{
-    BuildFault, Entry, FileMap, Found, Graph, Options, Output, PathList, Target, fault_text,
-    module_text, write_bundle, write_head, write_module, write_start,
+    Found, Graph, Options, Output, PathList, Target, fault_text, module_text, write_bundle, write_head,
+    write_module, write_start,
 };
+use mt_files::{BuildFault, Change, Entry, FileMap};
 use mt_io::{Sink, VecSink};
 use mt_path::Path;
 use mt_tokens::{Bytes, PathKind, Shared, SourceFault, SyntaxFault, Text, TextList};
@@ -33,7 +34,7 @@ fn one_source(rt: &(impl Abort + AllocGlobal), text: &str) -> FileMap {
     let path = path(rt, text);
     if path.is_source() {
         files
-            .insert(path, Entry::Source(source))
+            .apply(&Change::Put(path, Entry::Source(source)))
             .expect(rt, "memory");
     }
     files

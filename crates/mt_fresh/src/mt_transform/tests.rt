@@ -1,7 +1,7 @@
 //! What sources become, and each refusal, with memory enough.
 use super::{Options, Output, transform};
 use crate::mt_deps::{DepFault, deps};
-use crate::mt_files::MOST_SOURCE_BYTES;
+use mt_files::MOST_SOURCE_BYTES;
 use mt_tokens::{Bytes, PathKind, Shared, SourceFault, SyntaxFault, tokens};
 use std::alloc::Global;
 

@@ -1,6 +1,6 @@
 use Rattle.std.proofs.Common.{◌≤◌, ◌<◌, length, arith}
 use Rattle.mt_fresh.specs.Output.{source_dependencies}
-use Rattle.mt_fresh.specs.Resolve.{resolved}
+use Rattle.mt_files.specs.Resolve.{resolved}
 use Rattle.mt_fresh.proofs.Follows.{sure_length, followed_targets, followed_fault, follow_targets, follow_fault}
 use Rattle.mt_fresh.proofs.traversal.follow.Goals as goal
 

@@ -2,7 +2,7 @@ use Rattle.std.proofs.Common.{◌≡◌, ◌++◌, drop}
 use Rattle.std.specs.List.{filter_map, slice_get}
 use Rattle.std.specs.Option.{option_or}
 use Rattle.mt_fresh.specs.Output.{source_dependencies}
-use Rattle.mt_fresh.specs.Resolve.{resolved}
+use Rattle.mt_files.specs.Resolve.{resolved}
 use Rattle.mt_fresh.specs.Rows.{output_faults}
 use Rattle.mt_fresh.proofs.Follows.{faults_from}
 use Rattle.mt_fresh.proofs.traversal.follow.Given as goal

@@ -1,5 +1,5 @@
 use Rattle.std.proofs.Common.{◌≡◌, Ok, IfOk, sym, ◌∙◌, ap, subst}
-use Rattle.mt_fresh.specs.Edges.{kind_of}
+use Rattle.mt_files.specs.Edges.{kind_of}
 use Rattle.mt_fresh.specs.Output.{output_of}
 use Rattle.mt_fresh.proofs.Follows.{made_answer, module_row, module_targets}
 use Rattle.mt_fresh.proofs.traversal.read_module.Goals as goal

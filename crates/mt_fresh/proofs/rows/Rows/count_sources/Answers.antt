@@ -1,7 +1,7 @@
 use Rattle.std.proofs.Common.{ap, sym, ◌∙◌, rules, tests}
 use Rattle.std.specs.FinMap.{keys}
 use Rattle.std.proofs.lemmas.Iterator.Consumers.{count_from_yields_List, YieldsList-from_filter, YieldsList-from_rest}
-use Rattle.mt_fresh.specs.Snapshots.{has_source}
+use Rattle.mt_files.specs.Snapshots.{has_source}
 use Rattle.mt_io.proofs.Tables.{keys_table}
 use Rattle.mt_fresh.proofs.rows.Rows.count_sources.Goals as goal
 

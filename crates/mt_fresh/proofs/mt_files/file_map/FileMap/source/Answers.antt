@@ -1,5 +1,0 @@
-use Rattle.mt_fresh.proofs.Bounds.{source_bounded}
-use Rattle.mt_fresh.proofs.mt_files.file_map.FileMap.source.Goals as goal
-
-pub returns-in-Some-Source-clause-bound : goal.returns-in-Some-Source-clause-bound
-returns-in-Some-Source-clause-bound c = source_bounded c.args.self.now c.args.path.now c.get.ensures.snapshot
