@@ -1,3 +1,4 @@
 pub mod Ending
 pub mod Words
 pub mod Still
+pub mod Outcomes

@@ -2,15 +2,20 @@
 ghost use Rattle.std.specs.Prelude.{◌≡◌, ◌≤◌, None};
 ghost use Rattle.mt_io.specs.Causes.{Rose};
 
+use mt_files::MOST_SOURCE_BYTES;
 use mt_io::{Failed, Folder, Named, NamedKind, NamedList, Sink, Source, Store, Trouble};
 use mt_path::Path;
 use mt_tokens::{Bytes, Text};
 use std::alloc::{AllocError, Global};
-use std::fs;
+use std::fs::{self, File};
 use std::io::{self, ErrorKind, Read, Write};
 use std::rt::Files;
 
-/// A folder of the file system.
+/// The most bytes that are read of a file: one more than a source may have, so that its reader sees that there are more.
+const MOST_READ_BYTES: u64 = MOST_SOURCE_BYTES as u64 + 1;
+
+/// A folder of the file system. Of a file with more bytes than a source may have it reads one byte past that limit, and
+/// no more.
 #[derive(Drop)]
 pub struct RealFolder<'a> {
     rt: &'a HostRuntime,
@@ -62,6 +67,15 @@ impl<'a> RealFolder<'a> {
         Ok(names)
     }
 
+    // The bytes at the front of a file, read in pieces, up to the most that are read.
+    fn front(&self, alloc: Global, place: &str) -> io::Result<Vec<u8>> {
+        let mut front = Vec::new(alloc);
+        File::open(self.rt, place)?
+            .take(MOST_READ_BYTES)
+            .read_to_end(&mut front)?;
+        Ok(front)
+    }
+
     // A fault is counted; want of memory is none.
     fn trouble(&mut self, error: io::Error) -> Trouble
         ensures later { self.old.faults ≤ self.new.faults }
@@ -98,7 +112,7 @@ impl Folder for RealFolder<'_> {
         let Ok(place) = self.place(alloc, path) else {
             return Err(Trouble::NoMemory);
         };
-        match fs::read(self.rt, place.as_str()) {
+        match self.front(alloc, place.as_str()) {
             Ok(bytes) => Ok(Bytes::from_vec(bytes)),
             Err(error) => Err(self.trouble(error)),
         }

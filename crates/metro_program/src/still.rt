@@ -5,10 +5,12 @@ ghost use Rattle.mt_io.specs.Told.{Grows, GrowsByPrefix};
 ghost use Rattle.mt_io.specs.Files.{Files};
 ghost use Rattle.mt_files.specs.Snapshots.{Snapshot};
 ghost use Rattle.mt_fresh.specs.Graphs.{fresh_graph};
+ghost use Rattle.mt_fresh.specs.Bundle.{bundle_of};
 ghost use Rattle.mt_files.specs.Crawl.{crawled};
 ghost use Rattle.metro_program.specs.Words.{words_of};
 ghost use Rattle.metro_program.specs.Ending.{status_of, line_of};
 ghost use Rattle.metro_program.specs.Still.{still, bundle_plan, graph_plan, crawl_ending, IsAnswer, IsAnswered, IsBadWord, IsRefusedUnread, IsFaultLine};
+ghost use Rattle.metro_program.specs.Outcomes.{ComesTo, HasFault, HasGraph, HasLimit, HasReason, Stood};
 
 use crate::ending::{Ending, Limit};
 use crate::words::read_words;
@@ -141,7 +143,14 @@ pub fn metro_still<
     ensures bytes { (tree : Files) → F.told folder.old ≡ Some tree → IsAnswered result → Grows (O.told out.old) (O.told out.new) (still words.now tree).bytes }
     ensures part { (tree : Files) → F.told folder.old ≡ Some tree → GrowsByPrefix (O.told out.old) (O.told out.new) (still words.now tree).bytes }
 
-    // Each fault has its cause.
+    // Where neither the folder nor the output failed, the run comes to its plan, or memory ran out.
+    ensures complete { (tree : Files) → F.told folder.old ≡ Some tree → Stood (F.count folder.old) (F.count folder.new) → Stood (O.count out.old) (O.count out.new) → ComesTo (status_of (still words.now tree).ending) (still words.now tree).bytes result (O.told out.old) (O.told out.new) }
+    ensures done { (tree : Files) (built : HasGraph words.now tree) → F.told folder.old ≡ Some tree → Stood (F.count folder.old) (F.count folder.new) → Stood (O.count out.old) (O.count out.new) → ComesTo 0 (bundle_of true (built.entry ∷ []) built.graph) result (O.told out.old) (O.told out.new) }
+    ensures build_refused { (tree : Files) → HasFault words.now tree → F.told folder.old ≡ Some tree → Stood (F.count folder.old) (F.count folder.new) → Stood (O.count out.old) (O.count out.new) → ComesTo 1 [] result (O.told out.old) (O.told out.new) }
+    ensures limit_met { (tree : Files) → HasLimit words.now tree → F.told folder.old ≡ Some tree → Stood (F.count folder.old) (F.count folder.new) → Stood (O.count out.old) (O.count out.new) → ComesTo 6 [] result (O.told out.old) (O.told out.new) }
+
+    // Each answer has its reason, and each fault its cause.
+    ensures reason { (tree : Files) → F.told folder.old ≡ Some tree → HasReason result words.now tree }
     ensures read { result ≡ 3 → Rose (F.count folder.old) (F.count folder.new) }
     ensures write { result ≡ 4 → Rose (O.count out.old) (O.count out.new) }
     ensures statuses { result ≤ 6 }

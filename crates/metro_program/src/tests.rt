@@ -1,4 +1,9 @@
 //! Whole runs over objects in memory.
+mod bundles;
+mod faults;
+mod limits;
+mod refusals;
+
 use crate::real::NoStore;
 use crate::still::metro_still;
 use mt_io::{FreeGate, ListSource, MapFolder, VecSink};
@@ -118,125 +123,4 @@ fn left(ran: &Outcome, status: u8, pieces: &[&str], log: &str) -> bool {
         rest = more;
     }
     ran.status == status && rest.is_empty() && ran.log.bytes() == log.as_bytes()
-}
-
-#[test]
-fn a_lone_entry_is_bundled(rt: HostRuntime) {
-    let files = [("/index.js", "x();")];
-    let ran = run(
-        &rt,
-        rt.alloc(),
-        nothing_fails(&files, &["bundle", "index.js"]),
-    )
-    .expect(&rt, "memory");
-    let pieces = [PRELUDE, HEAD, "x();\n},0,[],\"index.js\");\n__r(0);\n"];
-    assert!(rt; left(&ran, 0, &pieces, ""));
-}
-
-#[test]
-fn modules_that_require_each_other_are_bundled(rt: HostRuntime) {
-    let files = [
-        ("/a.js", "require(\"./b.js\");require(\"./a.js\");"),
-        ("/b.js", "require(\"./a.js\");require(\"./b.js\");"),
-    ];
-    let body = "require(dependencyMap[0]);require(dependencyMap[1]);\n";
-    let pieces = [
-        PRELUDE,
-        HEAD,
-        body,
-        "},0,[1,0],\"a.js\");\n",
-        HEAD,
-        body,
-        "},1,[0,1],\"b.js\");\n__r(0);\n",
-    ];
-    let ran = run(&rt, rt.alloc(), nothing_fails(&files, &["bundle", "a.js"])).expect(
-        &rt, "memory",
-    );
-    assert!(rt; left(&ran, 0, &pieces, ""));
-}
-
-#[test]
-fn a_refusal_names_its_cause(rt: HostRuntime) {
-    for (files, log) in [
-        (
-            [("/b.js", "1;"), ("/c.js", "1;")],
-            "metro: entry /a.js is not a source file\n",
-        ),
-        (
-            [("/a.js", "x = 1 / 2;"), ("/b.js", "1;")],
-            "metro: /a.js:6: not built yet\n",
-        ),
-        (
-            [("/a.js", "require(\"./c.js\");"), ("/b.js", "1;")],
-            "metro: /a.js:8: cannot resolve \"./c.js\"\n",
-        ),
-        (
-            [("/a.js", "require(\"./b.js\");\n)"), ("/b.js", "\"")],
-            "metro: /a.js:19: syntax: unbalanced bracket\n",
-        ),
-        (
-            [("/a.js", "require(\"./b.js\");"), ("/b.js", "'x")],
-            "metro: /b.js:0: syntax: unclosed string\n",
-        ),
-        (
-            [("/a.js", "f(\n/*"), ("/b.js", "1;")],
-            "metro: /a.js:3: syntax: unclosed comment\n",
-        ),
-    ] {
-        let ran = run(&rt, rt.alloc(), nothing_fails(&files, &["bundle", "a.js"])).expect(
-            &rt, "memory",
-        );
-        assert!(rt; left(&ran, 1, &[], log), "{log}");
-    }
-}
-
-#[test]
-fn the_first_bad_word_is_named(rt: HostRuntime) {
-    for (words, log) in [
-        (["", "", ""].get(..0), "metro: word 1\n"),
-        (["deps", "a.js", ""].get(..2), "metro: word 1\n"),
-        (["bundle", "", ""].get(..1), "metro: word 2\n"),
-        (["bundle", "-a.js", ""].get(..2), "metro: word 2\n"),
-        (["bundle", "./a.js", ""].get(..2), "metro: word 2\n"),
-        (["bundle", "/", "b.js"].get(..3), "metro: word 2\n"),
-        (["bundle", "a.js", "b.js"].get(..3), "metro: word 3\n"),
-    ] {
-        let words = words.expect(&rt, "words");
-        let ran = run(&rt, rt.alloc(), nothing_fails(&[("/a.js", "1;")], words)).expect(
-            &rt, "memory",
-        );
-        assert!(rt; left(&ran, 2, &[], log), "{log}");
-    }
-}
-
-#[test]
-fn a_fault_of_the_outside_ends_the_run(rt: HostRuntime) {
-    let files = [("/index.js", "x();")];
-    let calm = nothing_fails(&files, &["bundle", "index.js"]);
-    for at in [1, 2] {
-        let failing = [at];
-        let given = Given {
-            folder_failing: &failing,
-            ..calm
-        };
-        let ran = run(&rt, rt.alloc(), given).expect(&rt, "memory");
-        assert!(rt; left(&ran, 3, &[], "metro: read failed\n"));
-    }
-    let given = Given {
-        out_failing: &[1],
-        ..calm
-    };
-    let ran = run(&rt, rt.alloc(), given).expect(&rt, "memory");
-    assert!(rt; left(&ran, 4, &[], "metro: write failed\n"));
-}
-
-#[test]
-fn a_fault_of_the_log_changes_no_status(rt: HostRuntime) {
-    let calm = nothing_fails(&[], &["bundle", "index.js"]);
-    let given = Given {
-        log_failing: &[1],
-        ..calm
-    };
-    let ran = run(&rt, rt.alloc(), given).expect(&rt, "memory");
-    assert!(rt; left(&ran, 1, &[], ""));
 }

@@ -1,0 +1,50 @@
+-- What a run comes to: the statuses and their reasons, in the words and the files of a folder.
+use Rattle.std.specs.Prelude.{◌≡◌, ◌⊎◌, ℕ, List, [], ◌∷◌, Result, Ok, Err, Option}
+use Rattle.mt_io.specs.Causes.{Rose}
+use Rattle.mt_io.specs.Files.{Files}
+use Rattle.mt_io.specs.Told.{Grows}
+use Rattle.mt_files.specs.Snapshots.{Snapshot}
+use Rattle.mt_files.specs.Crawl.{crawled}
+use Rattle.mt_fresh.specs.Graphs.{GraphMap, fresh_graph}
+use Rattle.mt_files.specs.declared.build_fault.BuildFault.{BuildFault}
+use Rattle.mt_files.specs.declared.fault.CrawlFault.{CrawlFault}
+use Rattle.metro_program.specs.Words.{words_of}
+
+-- a count of faults didn't rise
+abbrev pub Stood : ℕ → ℕ → Type 0
+Stood before now = Rose before now → ⊥
+
+-- the run ended with this status and wrote exactly these bytes, or memory ran out
+abbrev pub ComesTo : ℕ → List ℕ → ℕ → Option (List ℕ) → Option (List ℕ) → Type 0
+ComesTo wanted bytes status old new = (status ≡ 5) ⊎ ((status ≡ wanted) × Grows old new bytes)
+
+-- the words name an entry, and the snapshot of the files has a graph from it
+pub record HasGraph (words : List (List ℕ)) (tree : Files) : Type 0 where
+  pub entry : List ℕ
+  pub files : Snapshot
+  pub graph : GraphMap
+  pub named : words_of words ≡ Ok entry
+  pub taken : crawled tree ≡ Ok files
+  pub built : fresh_graph files (entry ∷ []) ≡ Ok graph
+
+-- the words name an entry, and the snapshot of the files has a fault from it
+pub record HasFault (words : List (List ℕ)) (tree : Files) : Type 0 where
+  pub entry : List ℕ
+  pub files : Snapshot
+  pub fault : BuildFault
+  pub named : words_of words ≡ Ok entry
+  pub taken : crawled tree ≡ Ok files
+  pub refused : fresh_graph files (entry ∷ []) ≡ Err fault
+
+-- the words name an entry, and the files meet a limit
+pub record HasLimit (words : List (List ℕ)) (tree : Files) : Type 0 where
+  pub entry : List ℕ
+  pub limit : CrawlFault
+  pub named : words_of words ≡ Ok entry
+  pub met : crawled tree ≡ Err limit
+
+-- the reasons of the statuses 0, 1 and 6
+pub record HasReason (status : ℕ) (words : List (List ℕ)) (tree : Files) : Type 0 where
+  pub built : status ≡ 0 → HasGraph words tree
+  pub refused : status ≡ 1 → HasFault words tree
+  pub limited : status ≡ 6 → HasLimit words tree
