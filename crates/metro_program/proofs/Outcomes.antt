@@ -1,5 +1,7 @@
 -- A run keeps to its plan where neither the folder nor the output failed, and each answer has its reason.
-use Rattle.std.proofs.Common.{inl, inr, ◌⊎◌, ◌≡◌, ◌<◌, ℕ, Bool, true, false, List, [], ◌∷◌, Option, Result, Ok, Err, refl, sym, ◌∙◌, subst, arith, nat_lt, if◌then◌else◌}
+use Rattle.std.proofs.Common.{inl, inr, ◌⊎◌, ◌≡◌, ◌<◌, ℕ, Bool, true, false, ◌+◌, List, [], ◌∷◌, length, Option, Result, Ok, Err, refl, sym, ◌∙◌, subst, arith, nat_lt, if◌then◌else◌}
+use Rattle.std.specs.Option.{unwrap_or}
+use Rattle.std.specs.FinMap.{get, insert}
 use Rattle.mt_io.specs.Causes.{Rose}
 use Rattle.mt_io.specs.Files.{Files}
 use Rattle.mt_io.specs.Told.{Grows}
@@ -11,6 +13,7 @@ use Rattle.mt_fresh.specs.Graphs.{GraphMap, fresh_graph}
 use Rattle.mt_fresh.specs.Bundle.{bundle_of}
 use Rattle.mt_files.specs.declared.build_fault.BuildFault.{BuildFault}
 use Rattle.mt_files.specs.declared.walk.Taken.{Taken}
+use Rattle.mt_files.specs.declared.file_map.Entry.TheVariants.{Source, Other}
 use Rattle.mt_files.specs.declared.fault.CrawlFault.{CrawlFault}
 use Rattle.mt_files.specs.declared.fault.CrawlFault.TheVariants as crawl
 use Rattle.metro_program.specs.declared.ending.Ending.{Ending}
@@ -68,10 +71,15 @@ either_way P true x y h k = h
 either_way P false x y h k = k
 
 source_limit : (path bytes : List ℕ) (taken : Taken) → IsLimit (with_source path bytes taken)
-source_limit path bytes taken = either_way IsLimit _ _ _ refl (either_way IsLimit _ _ _ refl tt)
+source_limit path bytes taken =
+    let more : Result Taken CrawlFault = Ok (record { files = insert taken.files path (Source bytes); count = taken.count + 1; bytes = taken.bytes + length bytes }) in
+    either_way IsLimit (nat_lt 16777216 (length bytes)) (Err (crawl.FileTooLarge path (length bytes))) (if nat_lt 1073741824 (taken.bytes + length bytes) then Err crawl.TooManyBytes else more) refl (either_way IsLimit (nat_lt 1073741824 (taken.bytes + length bytes)) (Err crawl.TooManyBytes) more refl tt)
 
 file_limit : (tree : Files) (taken : Taken) (path : List ℕ) → IsLimit (with_file tree taken path)
-file_limit tree taken path = either_way IsLimit _ _ _ (either_way IsLimit _ _ _ (source_limit path _ taken) tt) refl
+file_limit tree taken path =
+    let source : Result Taken CrawlFault = with_source path (unwrap_or (get tree path) []) taken in
+    let other : Result Taken CrawlFault = Ok (record { files = insert taken.files path Other; count = taken.count + 1; bytes = taken.bytes }) in
+    either_way IsLimit (nat_lt taken.count 262144) (if is_source path then source else other) (Err crawl.TooManyFiles) (either_way IsLimit (is_source path) source other (source_limit path (unwrap_or (get tree path) []) taken) tt) refl
 
 next_limit : (tree : Files) (r : Result Taken CrawlFault) (path : List ℕ) → IsLimit r → IsLimit (then_file tree r path)
 next_limit tree (Ok taken) path h = file_limit tree taken path
@@ -99,27 +107,27 @@ limited_by r old new words tree h ends =
 graph_reason : (words : List (List ℕ)) (tree : Files) (entry : List ℕ) (files : Snapshot) (g : Result GraphMap BuildFault) → words_of words ≡ Ok entry → crawled tree ≡ Ok files → fresh_graph files (entry ∷ []) ≡ g → HasReason (status_of (graph_plan entry g).ending) words tree
 graph_reason words tree entry files (Ok graph) named taken is = record {
   built = λ e. record { entry = entry; files = files; graph = graph; named = named; taken = taken; built = is };
-  refused = λ e. absurd e;
-  limited = λ e. absurd e
+  refused = λ e. absurd (omega (arith, e));
+  limited = λ e. absurd (omega (arith, e))
 }
 graph_reason words tree entry files (Err fault) named taken is = record {
-  built = λ e. absurd e;
+  built = λ e. absurd (omega (arith, e));
   refused = λ e. record { entry = entry; files = files; fault = fault; named = named; taken = taken; refused = is };
-  limited = λ e. absurd e
+  limited = λ e. absurd (omega (arith, e))
 }
 
 files_reason : (words : List (List ℕ)) (tree : Files) (entry : List ℕ) (found : Result Snapshot CrawlFault) → words_of words ≡ Ok entry → crawled tree ≡ found → HasReason (status_of (bundle_plan entry found).ending) words tree
 files_reason words tree entry (Ok files) named taken = graph_reason words tree entry files (fresh_graph files (entry ∷ [])) named taken refl
 files_reason words tree entry (Err fault) named met =
     subst (λ x. HasReason x words tree) (sym (limit_status tree fault met)) (record {
-      built = λ e. absurd e;
-      refused = λ e. absurd e;
+      built = λ e. absurd (omega (arith, e));
+      refused = λ e. absurd (omega (arith, e));
       limited = λ e. record { entry = entry; limit = fault; named = named; met = met }
     })
 
 words_reason : (words : List (List ℕ)) (tree : Files) (w : Result (List ℕ) ℕ) → words_of words ≡ w → HasReason (status_of (words_plan w tree).ending) words tree
 words_reason words tree (Ok entry) named = files_reason words tree entry (crawled tree) named refl
-words_reason words tree (Err at) named = record { built = λ e. absurd e; refused = λ e. absurd e; limited = λ e. absurd e }
+words_reason words tree (Err at) named = record { built = λ e. absurd (omega (arith, e)); refused = λ e. absurd (omega (arith, e)); limited = λ e. absurd (omega (arith, e)) }
 
 -- the statuses of the plan have their reasons
 pub still_reason : (words : List (List ℕ)) (tree : Files) → HasReason (status_of (still words tree).ending) words tree
