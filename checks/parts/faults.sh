@@ -5,7 +5,7 @@ printf '1;' >"$folder/small.js"
 yes '// a line of text' | head -n 8192 >"$folder/many.js"
 printf '1;' >>"$folder/many.js"
 
-# full NAME STATUS STREAM LINE WORD..: runs the program with the stream of this number on a full device.
+# A full device as the output, and as the log.
 (cd "$folder" && exec timeout 60 "$metro" bundle small.js) >/dev/full 2>"$work/log" </dev/null
 got=$?
 : >"$work/out"
