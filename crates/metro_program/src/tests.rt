@@ -89,9 +89,19 @@ struct Outcome {
 }
 
 fn run<R: Threads + Sync>(rt: &R, alloc: Global, given: Given<'_>) -> Result<Outcome, AllocError> {
+    run_over(rt, alloc, tree(alloc, given.files)?, given)
+}
+
+/// A run as it is given, but over the files of this tree.
+fn run_over<R: Threads + Sync>(
+    rt: &R,
+    alloc: Global,
+    tree: BTreeMap<Path, Bytes>,
+    given: Given<'_>,
+) -> Result<Outcome, AllocError> {
     let words = texts(alloc, given.words)?;
     let failing = Vec::from_slice(alloc, given.folder_failing)?;
-    let mut folder = MapFolder::new(tree(alloc, given.files)?, failing);
+    let mut folder = MapFolder::new(tree, failing);
     let mut script = ListSource::new(Vec::new(alloc), Vec::new(alloc));
     let mut out = VecSink::new(
         alloc,
@@ -123,4 +133,13 @@ fn left(ran: &Outcome, status: u8, pieces: &[&str], log: &str) -> bool {
         rest = more;
     }
     ran.status == status && rest.is_empty() && ran.log.bytes() == log.as_bytes()
+}
+
+/// These pieces one after another.
+fn joined(alloc: Global, pieces: &[&str]) -> Result<Vec<u8>, AllocError> {
+    let mut joined = Vec::new(alloc);
+    for piece in pieces {
+        joined.extend_from_slice(piece.as_bytes())?;
+    }
+    Ok(joined)
 }

@@ -1,6 +1,5 @@
 //! Faults of the folder, the output and the log, one at a time.
-use super::{Given, HEAD, Outcome, PRELUDE, left, nothing_fails, run};
-use std::alloc::{AllocError, Global};
+use super::{Given, HEAD, Outcome, PRELUDE, joined, left, nothing_fails, run};
 
 /// Two folders and two sources: a run calls the folder four times.
 const FILES: [(&str, &str); 2] = [
@@ -19,14 +18,6 @@ const PIECES: [&str; 5] = [
     HEAD,
     "1;\n},1,[],\"lib/b.js\");\n__r(0);\n",
 ];
-
-fn joined(alloc: Global, pieces: &[&str]) -> Result<Vec<u8>, AllocError> {
-    let mut joined = Vec::new(alloc);
-    for piece in pieces {
-        joined.extend_from_slice(piece.as_bytes())?;
-    }
-    Ok(joined)
-}
 
 /// Whether the output failed in a run and took no more than a front part of these bytes.
 fn is_cut(ran: &Outcome, whole: &[u8]) -> bool {
