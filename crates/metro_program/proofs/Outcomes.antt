@@ -108,12 +108,12 @@ graph_reason : (words : List (List ℕ)) (tree : Files) (entry : List ℕ) (file
 graph_reason words tree entry files (Ok graph) named taken is = record {
   built = λ e. record { entry = entry; files = files; graph = graph; named = named; taken = taken; built = is };
   refused = λ e. absurd (omega (arith, e));
-  limited = λ e. absurd (omega (arith, e))
+  limited = λ e. absurd (omega (arith, e));
 }
 graph_reason words tree entry files (Err fault) named taken is = record {
   built = λ e. absurd (omega (arith, e));
   refused = λ e. record { entry = entry; files = files; fault = fault; named = named; taken = taken; refused = is };
-  limited = λ e. absurd (omega (arith, e))
+  limited = λ e. absurd (omega (arith, e));
 }
 
 files_reason : (words : List (List ℕ)) (tree : Files) (entry : List ℕ) (found : Result Snapshot CrawlFault) → words_of words ≡ Ok entry → crawled tree ≡ found → HasReason (status_of (bundle_plan entry found).ending) words tree
@@ -122,7 +122,7 @@ files_reason words tree entry (Err fault) named met =
     subst (λ x. HasReason x words tree) (sym (limit_status tree fault met)) (record {
       built = λ e. absurd (omega (arith, e));
       refused = λ e. absurd (omega (arith, e));
-      limited = λ e. record { entry = entry; limit = fault; named = named; met = met }
+      limited = λ e. record { entry = entry; limit = fault; named = named; met = met };
     })
 
 words_reason : (words : List (List ℕ)) (tree : Files) (w : Result (List ℕ) ℕ) → words_of words ≡ w → HasReason (status_of (words_plan w tree).ending) words tree
@@ -146,5 +146,5 @@ reason_by r words tree same =
     record {
       built = λ e. plan.built (sym (same (inl (subst (λ x. x < 3) (sym e) (omega arith)))) ∙ e);
       refused = λ e. plan.refused (sym (same (inl (subst (λ x. x < 3) (sym e) (omega arith)))) ∙ e);
-      limited = λ e. plan.limited (sym (same (inr e)) ∙ e)
+      limited = λ e. plan.limited (sym (same (inr e)) ∙ e);
     }

@@ -2,10 +2,7 @@
 use super::{Given, HEAD, Outcome, PRELUDE, joined, left, nothing_fails, run};
 
 /// Two folders and two sources: a run calls the folder four times.
-const FILES: [(&str, &str); 2] = [
-    ("/a.js", "require(\"./lib/b.js\");"),
-    ("/lib/b.js", "1;"),
-];
+const FILES: [(&str, &str); 2] = [("/a.js", "require(\"./lib/b.js\");"), ("/lib/b.js", "1;")];
 
 /// The words of the runs here.
 const WORDS: [&str; 2] = ["bundle", "a.js"];

@@ -91,10 +91,7 @@ fn each_limit_has_its_line(rt: HostRuntime) {
     for (limit, line) in [
         (Limit::File, FILE_LINE),
         (Limit::Files, "metro: limit files 262144\n"),
-        (
-            Limit::FolderBytes,
-            "metro: limit folder-bytes 1073741824\n",
-        ),
+        (Limit::FolderBytes, "metro: limit folder-bytes 1073741824\n"),
     ] {
         let ending = Ending::Limit(limit);
         let text = ending.line(rt.alloc()).expect(&rt, "memory");

@@ -116,10 +116,7 @@ fn the_fault_with_the_least_path_and_place_is_named(rt: HostRuntime) {
             ],
             "metro: /b.js:8: cannot resolve \"./n.js\"\n",
         ),
-        (
-            [("/a.js", "1;"), ("/b.js", "("), ("/c.js", "'x")],
-            "",
-        ),
+        ([("/a.js", "1;"), ("/b.js", "("), ("/c.js", "'x")], ""),
     ] {
         let ran = run(&rt, rt.alloc(), nothing_fails(&files, &["bundle", "a.js"])).expect(
             &rt, "memory",
