@@ -1,9 +1,8 @@
 -- A graph that a traversal answers has at most so many modules.
-use Rattle.std.proofs.Common.{inl, inr, ◌⊎◌, ◌≡◌, ◌≤◌, ℕ, List, Result, Ok, Err, sym}
+use Rattle.std.proofs.Common.{inl, inr, ◌⊎◌, ◌≡◌, ◌≤◌, ℕ, List, Ok, Err, sym}
 use Rattle.std.specs.FinMap.{len}
 use Rattle.mt_files.specs.Snapshots.{Snapshot}
 use Rattle.mt_fresh.specs.Graphs.{GraphMap, fresh_graph}
-use Rattle.mt_files.specs.declared.build_fault.BuildFault.{BuildFault}
 use Rattle.mt_files.specs.declared.build_fault.BuildFault.TheVariants.{NoMemory}
 use Rattle.mt_fresh.proofs.Sizes.{fresh_size}
 

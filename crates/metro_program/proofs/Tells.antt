@@ -1,8 +1,8 @@
 -- What a run tells of its ending.
-use Rattle.std.proofs.Common.{inl, inr, ◌⊎◌, ◌≡◌, ◌<◌, ℕ, List, Option, Result, Ok, Err, sym, subst, arith}
+use Rattle.std.proofs.Common.{inl, inr, ◌⊎◌, ◌≡◌, ℕ, List, Option, Result, Ok, Err, subst, arith}
 use Rattle.mt_io.specs.Told.{Grows}
 use Rattle.metro_program.specs.declared.ending.Ending.{Ending}
-use Rattle.metro_program.specs.declared.ending.Ending.TheVariants.{BadWord, NoMemory}
+use Rattle.metro_program.specs.declared.ending.Ending.TheVariants.{NoMemory}
 use Rattle.metro_program.specs.Ending.{status_of, line_of}
 use Rattle.metro_program.specs.Still.{IsAnswer, IsAnswered, IsRefusedUnread}
 

@@ -1,5 +1,5 @@
 -- What a run comes to: the statuses and their reasons, in the words and the files of a folder.
-use Rattle.std.specs.Prelude.{◌≡◌, ◌⊎◌, ℕ, List, [], ◌∷◌, Result, Ok, Err, Option}
+use Rattle.std.specs.Prelude.{◌≡◌, ◌⊎◌, ℕ, List, [], ◌∷◌, Ok, Err, Option}
 use Rattle.mt_io.specs.Causes.{Rose}
 use Rattle.mt_io.specs.Files.{Files}
 use Rattle.mt_io.specs.Told.{Grows}
