@@ -1,0 +1,11 @@
+use Rattle.mt_script.proofs.Laws.{read, written}
+use Rattle.mt_script.proofs.law.law_of_scripts.Goals as goal
+
+pub returns-clause-written : goal.returns-clause-written
+returns-clause-written c = written
+
+pub returns-clause-text : goal.returns-clause-text
+returns-clause-text c = λ n bytes command rest h. (read n bytes command rest h).text
+
+pub returns-clause-command : goal.returns-clause-command
+returns-clause-command c = λ n bytes command rest h. (read n bytes command rest h).command

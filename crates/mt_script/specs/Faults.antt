@@ -1,0 +1,21 @@
+-- Why a script gave no command, and when a call answers so.
+use Rattle.std.specs.Prelude.{ℕ, ◌≡◌, ◌≤◌, ◌⊎◌, Result, Ok, Err, IsErrOf}
+use Rattle.mt_io.specs.Causes.{Rose}
+use Rattle.mt_script.specs.declared.command.Command.{Command}
+use Rattle.mt_script.specs.declared.fault.ScriptFault.{ScriptFault}
+use Rattle.mt_script.specs.declared.fault.ScriptFault.TheVariants.{Bad, Cut, FileTooLarge, TooManyCommands, Failed, NoMemory}
+
+-- the fault that keeps a path
+abbrev pub HasPath : ScriptFault → Type 0
+HasPath (FileTooLarge path size) = Unit {0}
+HasPath fault = ⊥
+
+-- the same fault once more; only where it keeps a path, there may be no memory for that
+abbrev pub Repeats : ScriptFault → Result Command ScriptFault → Type 0
+Repeats (FileTooLarge path size) result = (result ≡ Err NoMemory) ⊎ (result ≡ Err (FileTooLarge path size))
+Repeats fault result = result ≡ Err fault
+
+-- the count of the source's faults doesn't fall, and it rose where the answer is `Failed`
+pub record HasFailed {T : Type 0} (before now : ℕ) (result : Result T ScriptFault) : Type 0 where
+  pub later : before ≤ now
+  pub failed : IsErrOf result Failed → Rose before now
