@@ -8,3 +8,5 @@ pub mod Spelling
 pub mod Telling
 pub mod Nexts
 pub mod Laws
+pub mod Runs
+pub mod Taking

@@ -11,9 +11,14 @@ HasPath (FileTooLarge path size) = Unit {0}
 HasPath fault = ⊥
 
 -- the same fault once more; only where it keeps a path, there may be no memory for that
+abbrev pub Copies : ScriptFault → ScriptFault → Type 0
+Copies (FileTooLarge path size) copy = (copy ≡ FileTooLarge path size) ⊎ (copy ≡ NoMemory)
+Copies fault copy = copy ≡ fault
+
+-- the answer is such a copy
 abbrev pub Repeats : ScriptFault → Result Command ScriptFault → Type 0
-Repeats (FileTooLarge path size) result = (result ≡ Err NoMemory) ⊎ (result ≡ Err (FileTooLarge path size))
-Repeats fault result = result ≡ Err fault
+Repeats fault (Ok command) = ⊥
+Repeats fault (Err copy) = Copies fault copy
 
 -- the count of the source's faults doesn't fall, and it rose where the answer is `Failed`
 pub record HasFailed {T : Type 0} (before now : ℕ) (result : Result T ScriptFault) : Type 0 where

@@ -1,4 +1,5 @@
 use Rattle.mt_script.proofs.Laws.{read, written}
+use Rattle.mt_script.proofs.Runs.{whole_script}
 use Rattle.mt_script.proofs.law.law_of_scripts.Goals as goal
 
 pub returns-clause-written : goal.returns-clause-written
@@ -9,3 +10,6 @@ returns-clause-text c = λ n bytes command rest h. (read n bytes command rest h)
 
 pub returns-clause-command : goal.returns-clause-command
 returns-clause-command c = λ n bytes command rest h. (read n bytes command rest h).command
+
+pub returns-clause-script : goal.returns-clause-script
+returns-clause-script c = whole_script
