@@ -1,5 +1,5 @@
 -- The steps of the reader: what its parts give joined to what the bytes say.
-use Rattle.std.proofs.Common.{◌≡◌, ◌<◌, ◌≤◌, ◌+◌, refl, List, ℕ, [], ◌∷◌, ◌++◌, length, take, drop, get_or, sym, ap, subst, ◌∙◌, arith, append_assoc, length-append, Option, Some, None}
+use Rattle.std.proofs.Common.{◌≡◌, ◌<◌, ◌≤◌, ◌+◌, refl, List, ℕ, [], ◌∷◌, ◌++◌, length, take, drop, get_or, sym, ap, subst, ◌∙◌, arith, append_assoc, length-append, length-take, Option, Some, None}
 use Rattle.std.proofs.Math.Seq.{take-add}
 use Rattle.std.proofs.lemmas.List.{drop-drop, get_or-take, take-append-drop, take-take}
 use Rattle.mt_io.specs.Told.{Reading, read_on}
@@ -13,7 +13,7 @@ use Rattle.mt_script.specs.declared.fault.ScriptFault.TheVariants.{Bad, Cut, Fil
 use Rattle.mt_script.specs.declared.line.LineEnd.TheVariants.{Whole, TooLong, Unfinished}
 use Rattle.mt_script.specs.declared.order.Order.{Order}
 use Rattle.mt_script.specs.declared.order.Order.TheVariants as order
-use Rattle.mt_script.proofs.Nexts.{next_asks, next_bad, next_long, next_open, put_bad, put_cut, put_found}
+use Rattle.mt_script.proofs.Nexts.{next_asks, next_bad, next_long, next_open, put_bad, put_cut, put_found, put_small, step_within}
 use Rattle.mt_script.proofs.Readings.{held_and_left, read_twice, spent_all}
 
 -- the line is too long
@@ -94,3 +94,18 @@ ordered_failed n r told now a b o h k = record {
       ap (next_of n) (ap (λ (xs : List ℕ). a ++ xs) (take-add h.count k.count r.left) ∙ sym (append_assoc a (take h.count r.left) (take k.count (drop h.count r.left))))
       ∙ h.step (take k.count (drop h.count r.left)) ∙ k.cut;
 }
+
+-- bytes that were taken reach as far as they should
+pub taken_inside : (r : Reading) (told : Option Reading) (old new : List ℕ) (size : ℕ) (taken : List ℕ) → Takes r told old new (size + 1) taken → size < length taken
+taken_inside r told old new size taken t = omega (arith, ap length t.first, length-take (size + 1) (old ++ r.left), t.enough)
+
+-- the step of a `put` within the limits
+pub limited_put : (n : ℕ) (o : Order) (path : List ℕ) (size : ℕ) → o ≡ order.Put path size → n < 1048576 → size ≤ 16777216 → (bytes : List ℕ) → limited_step n o bytes ≡ put_step n path size bytes
+limited_put n o path size same room small bytes = ap (λ (x : Order). limited_step n x bytes) same ∙ step_within n (order.Put path size) bytes room ∙ put_small n path size bytes small
+
+-- what is said of a step is said of one that is the same
+pub finds_same : (step other : List ℕ → Step) (r : Reading) (told : Option Reading) (old new : List ℕ) (command : Command) → ((bytes : List ℕ) → other bytes ≡ step bytes) → Finds step r told old new command → Finds other r told old new command
+finds_same step other r told old new command same h = record { count = h.count; now = h.now; found = same (old ++ r.left) ∙ h.found }
+
+pub interrupted_same : (step other : List ℕ → Step) (number : ℕ) (r : Reading) (told : Option Reading) (old : List ℕ) → ((bytes : List ℕ) → other bytes ≡ step bytes) → Interrupted step number r told old → Interrupted other number r told old
+interrupted_same step other number r told old same h = record { count = h.count; now = h.now; cut = same (old ++ take h.count r.left) ∙ h.cut }

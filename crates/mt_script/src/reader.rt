@@ -1,5 +1,6 @@
 //! The commands of a script, read from a source one by one.
-ghost use Rattle.std.specs.Prelude.{◌≡◌, ◌<◌, ◌≤◌, ◌+◌, ◌++◌, ℕ, List, [], Some, None, Ok, Err, IfOk, IfErr, IsErrOf, OnErr, OnOk, IfSome, is_ok, result_err, ◌⊎◌, if◌then◌else◌};
+ghost use Rattle.std.specs.Prelude.{◌≡◌, ◌<◌, ◌≤◌, ◌+◌, ◌++◌, ℕ, List, [], Some, None, Ok, Err, IfOk, IfErr, IsErrOf, OnErr, OnOk, IfSome, is_ok, ◌⊎◌, if◌then◌else◌};
+ghost use Rattle.std.specs.Result.{result_err};
 ghost use Rattle.mt_io.specs.Causes.{Rose};
 ghost use Rattle.mt_io.specs.Told.{Reading};
 ghost use Rattle.mt_script.specs.Commands.{IsCommand};
