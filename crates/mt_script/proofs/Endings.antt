@@ -1,13 +1,12 @@
 -- How the line at the front ends, and that more bytes behind a line that has ended change nothing.
-use Rattle.std.proofs.Common.{◌≡◌, ◌+◌, ◌<◌, ◌≤◌, ◌⊎◌, inl, inr, Bool, true, false, not, cond, eqb, ltb, ◌==◌, refl, List, ℕ, [], ◌∷◌, ◌++◌, length, take, drop, get_or, sym, ap, ◌∙◌, arith, length-append, Option, Some, None}
+use Rattle.std.proofs.Common.{◌≡◌, ◌+◌, ◌<◌, ◌≤◌, inl, inr, true, false, not, cond, eqb, ltb, ◌==◌, refl, List, ℕ, [], ◌∷◌, ◌++◌, length, take, drop, get_or, sym, ap, ◌∙◌, arith, length-append, Some, None}
 use Rattle.std.proofs.lemmas.Bool.{ltb-true, ltb-false, lt-ltb, le-ltb, eqb-true, eqb-false, ne_eqb, eq-eqb, cond-true, cond-false, not-false, and_parts}
 use Rattle.std.proofs.lemmas.Bool.Decides.{nat_tests}
-use Rattle.std.proofs.lemmas.List.{take-append-drop, drop_more, take-append-le, drop-append-le}
+use Rattle.std.proofs.lemmas.List.{take-append-drop, drop_more}
 use Rattle.std.proofs.lemmas.List.Folds.{prefix_len-append}
 use Rattle.std.proofs.lemmas.List.Sums.{prefix_len-le-length, prefix_len_stops}
 use Rattle.std.specs.List.{list_all, position}
 use Rattle.mt_script.specs.Steps.{line_len, line_end}
-use Rattle.mt_script.specs.declared.line.LineEnd.{LineEnd}
 use Rattle.mt_script.specs.declared.line.LineEnd.TheVariants.{Whole, TooLong, Unfinished}
 use Rattle.mt_script.proofs.Choices.{chosen, kept}
 
@@ -27,14 +26,14 @@ when_whole bytes len h =
     elim (chosen (ltb 1100 (line_len bytes)) TooLong (cond (eqb (line_len bytes) (length bytes)) Unfinished (Whole (line_len bytes))) (Whole len) h) [
       | inl p ↦ cc
       | inr p ↦ elim (chosen (eqb (line_len bytes) (length bytes)) Unfinished (Whole (line_len bytes)) (Whole len) p.1) [
-          | inl q ↦ cc
-          | inr q ↦
-              let same : line_len bytes ≡ len = cc in
-              let apart = eqb-false (line_len bytes) (length bytes) q.0 in
-              let most = line_len_le bytes in
-              let few = ltb-false 1100 (line_len bytes) p.0 in
-              record { first = same; within = omega arith; short = omega arith }
-        ]
+        | inl q ↦ cc
+        | inr q ↦
+            let same : line_len bytes ≡ len = cc in
+            let apart = eqb-false (line_len bytes) (length bytes) q.0 in
+            let most = line_len_le bytes in
+            let few = ltb-false 1100 (line_len bytes) p.0 in
+            record { first = same; within = omega arith; short = omega arith }
+      ]
     ]
 
 pub when_long : (bytes : List ℕ) → line_end bytes ≡ TooLong → 1100 < line_len bytes
@@ -49,12 +48,12 @@ when_unfinished bytes h =
     elim (chosen (ltb 1100 (line_len bytes)) TooLong (cond (eqb (line_len bytes) (length bytes)) Unfinished (Whole (line_len bytes))) Unfinished h) [
       | inl p ↦ cc
       | inr p ↦ elim (chosen (eqb (line_len bytes) (length bytes)) Unfinished (Whole (line_len bytes)) Unfinished p.1) [
-          | inl q ↦
-              let few = ltb-false 1100 (line_len bytes) p.0 in
-              let all = eqb-true (line_len bytes) (length bytes) q.0 in
-              omega arith
-          | inr q ↦ cc
-        ]
+        | inl q ↦
+            let few = ltb-false 1100 (line_len bytes) p.0 in
+            let all = eqb-true (line_len bytes) (length bytes) q.0 in
+            omega arith
+        | inr q ↦ cc
+      ]
     ]
 
 -- and back

@@ -1,23 +1,20 @@
 -- What is written is read, what is read was written, and a whole script.
-use Rattle.std.proofs.Common.{◌≡◌, ◌<◌, ◌≤◌, ◌+◌, ◌⊎◌, inl, inr, Bool, true, false, eqb, ltb, leb, refl, List, ℕ, zero, suc, [], ◌∷◌, ◌++◌, length, take, drop, get_or, sym, ap, subst, ◌∙◌, arith, append_assoc, append-nil, length-append, Option, Some, None}
+use Rattle.std.proofs.Common.{◌≡◌, ◌<◌, ◌+◌, inl, inr, eqb, ltb, leb, refl, List, ℕ, [], ◌∷◌, ◌++◌, length, take, drop, get_or, sym, ap, subst, ◌∙◌, arith, append_assoc, append-nil, length-append, Option, Some, None}
 use Rattle.std.specs.Option.{option_map_or}
-use Rattle.std.specs.List.{flat_map}
 use Rattle.std.proofs.lemmas.Bool.{ltb-true, ltb-false, leb-false, eqb-true}
-use Rattle.std.proofs.lemmas.List.{drop_at, drop_more, get_or_at, take-append-drop, take_at, length-take-le}
-use Rattle.mt_script.specs.Commands.{GoesOn, IsCommand, behind_line, command_text, line_text, put_line, script_text}
+use Rattle.std.proofs.lemmas.List.{append_cancel_right, drop_at, drop_more, get_or_at, take-append-drop, take_at, length-take-le}
+use Rattle.mt_script.specs.Commands.{IsCommand, behind_line, command_text, line_text, put_line}
 use Rattle.mt_script.specs.Orders.{order_of}
-use Rattle.mt_script.specs.Scripts.{Script, begun, script_from, script_of, script_within, with_command}
-use Rattle.mt_script.specs.Steps.{Step, Found, Stopped, ended_step, limited_step, line_end, line_step, next_of, order_step, put_step}
+use Rattle.mt_script.specs.Steps.{Found, Stopped, ended_step, limited_step, line_end, line_step, next_of, order_step, put_step}
 use Rattle.mt_script.specs.declared.command.Command.{Command}
 use Rattle.mt_script.specs.declared.command.Command.TheVariants.{Put, Del, Rescan, Build, End}
-use Rattle.mt_script.specs.declared.fault.ScriptFault.{ScriptFault}
 use Rattle.mt_script.specs.declared.fault.ScriptFault.TheVariants.{Bad, Cut, FileTooLarge, TooManyCommands}
 use Rattle.mt_script.specs.declared.line.LineEnd.{LineEnd}
 use Rattle.mt_script.specs.declared.line.LineEnd.TheVariants.{Whole, TooLong, Unfinished}
 use Rattle.mt_script.specs.declared.order.Order.{Order}
 use Rattle.mt_script.specs.declared.order.Order.TheVariants as order
 use Rattle.mt_script.proofs.Choices.{chosen}
-use Rattle.mt_script.proofs.Endings.{EndsAt, ends_line, line_parts, when_whole}
+use Rattle.mt_script.proofs.Endings.{ends_line, line_parts, when_whole}
 use Rattle.mt_script.proofs.Nexts.{line_asks, next_ended, next_whole, put_found, put_small, step_within}
 use Rattle.mt_script.proofs.Spelling.{line_no_feed, line_order, line_short, order_for}
 use Rattle.mt_script.proofs.Telling.{Tells, told_by}
@@ -49,7 +46,7 @@ written n c rest h room =
     let none = append-nil (line ++ 10 ∷ (behind_line c ++ rest)) in
     let front : take (length line) (line ++ 10 ∷ (behind_line c ++ rest)) ≡ line = take_at line (10 ∷ (behind_line c ++ rest)) (length line) refl in
     let back : drop (length line + 1) (line ++ 10 ∷ (behind_line c ++ rest)) ≡ behind_line c ++ rest =
-        ap (drop (length line + 1)) (sym (append_assoc line (10 ∷ []) (behind_line c ++ rest))) ∙ drop_at (line ++ 10 ∷ []) (behind_line c ++ rest) (length line + 1) (length-append line (10 ∷ [])) in
+    ap (drop (length line + 1)) (sym (append_assoc line (10 ∷ []) (behind_line c ++ rest))) ∙ drop_at (line ++ 10 ∷ []) (behind_line c ++ rest) (length line + 1) (length-append line (10 ∷ [])) in
     ap (next_of n) all
     ∙ ap (next_of n) (sym none)
     ∙ next_whole n (line ++ 10 ∷ (behind_line c ++ rest)) [] (length line) ends
@@ -70,10 +67,10 @@ whole_written n line after d c rest t h =
     let same : d ≡ c = cc in
     let back : after ≡ rest = cc in
     let text : line ++ 10 ∷ after ≡ command_text d ++ rest =
-        ap (λ (xs : List ℕ). xs ++ 10 ∷ after) t.spelled.0
-        ∙ ap (λ (xs : List ℕ). line_text d ++ 10 ∷ xs) back
-        ∙ sym (append_assoc (line_text d) (10 ∷ []) rest)
-        ∙ ap (λ (xs : List ℕ). line_text d ++ 10 ∷ xs ++ rest) (sym t.spelled.1) in
+    ap (λ (xs : List ℕ). xs ++ 10 ∷ after) t.spelled.0
+    ∙ ap (λ (xs : List ℕ). line_text d ++ 10 ∷ xs) back
+    ∙ sym (append_assoc (line_text d) (10 ∷ []) rest)
+    ∙ ap (λ (xs : List ℕ). line_text d ++ 10 ∷ xs ++ rest) (sym t.spelled.1) in
     subst (λ (x : Command). WasWritten (line ++ 10 ∷ after) x rest) same (record { text = text; command = t.names })
 
 -- what a `put` finds
@@ -82,11 +79,11 @@ put_parts n path size after c rest h =
     elim (chosen (leb (length after) size) (Stopped (Cut (n + 1))) _ (Found c rest) h) [
       | inl p ↦ absurd (let q : Stopped (Cut (n + 1)) ≡ Found c rest = p.1 in cc)
       | inr p ↦ elim (chosen (eqb (get_or after size 0) 10) (Found (Put path (take size after)) (drop (size + 1) after)) (Stopped (Bad (n + 1))) (Found c rest) p.1) [
-          | inl q ↦
-              let found : Found (Put path (take size after)) (drop (size + 1) after) ≡ Found c rest = q.1 in
-              (leb-false (length after) size p.0, eqb-true (get_or after size 0) 10 q.0, cc, cc)
-          | inr q ↦ absurd (let r : Stopped (Bad (n + 1)) ≡ Found c rest = q.1 in cc)
-        ]
+        | inl q ↦
+            let found : Found (Put path (take size after)) (drop (size + 1) after) ≡ Found c rest = q.1 in
+            (leb-false (length after) size p.0, eqb-true (get_or after size 0) 10 q.0, cc, cc)
+        | inr q ↦ absurd (let r : Stopped (Bad (n + 1)) ≡ Found c rest = q.1 in cc)
+      ]
     ]
 
 -- a `put` that is found was written
@@ -100,11 +97,11 @@ put_written n line after path size c rest t h =
           let inside = q.0 in
           let len : length (take size after) ≡ size = length-take-le size after (omega arith) in
           let whole : after ≡ take size after ++ 10 ∷ rest =
-              sym (take-append-drop size after) ∙ ap (λ (xs : List ℕ). take size after ++ xs) (drop_more after size 0 inside ∙ ap (λ (b : ℕ). b ∷ drop (size + 1) after) q.1 ∙ ap (λ (xs : List ℕ). 10 ∷ xs) q.3) in
+          sym (take-append-drop size after) ∙ ap (λ (xs : List ℕ). take size after ++ xs) (drop_more after size 0 inside ∙ ap (λ (b : ℕ). b ∷ drop (size + 1) after) q.1 ∙ ap (λ (xs : List ℕ). 10 ∷ xs) q.3) in
           let text : line ++ 10 ∷ after ≡ command_text (Put path (take size after)) ++ rest =
-              ap (λ (xs : List ℕ). xs ++ 10 ∷ after) (t.spelled ∙ ap (put_line path) (sym len))
-              ∙ ap (λ (xs : List ℕ). put_line path (length (take size after)) ++ 10 ∷ xs) (whole ∙ sym (append_assoc (take size after) (10 ∷ []) rest))
-              ∙ sym (append_assoc (put_line path (length (take size after))) (10 ∷ (take size after ++ 10 ∷ [])) rest) in
+          ap (λ (xs : List ℕ). xs ++ 10 ∷ after) (t.spelled ∙ ap (put_line path) (sym len))
+          ∙ ap (λ (xs : List ℕ). put_line path (length (take size after)) ++ 10 ∷ xs) (whole ∙ sym (append_assoc (take size after) (10 ∷ []) rest))
+          ∙ sym (append_assoc (put_line path (length (take size after))) (10 ∷ (take size after ++ 10 ∷ [])) rest) in
           subst (λ (x : Command). WasWritten (line ++ 10 ∷ after) x rest) q.2 (record { text = text; command = record { path = t.names.0; writable = (t.names.1, omega arith) } })
     ]
 
@@ -129,3 +126,33 @@ ended_written n bytes (Whole len) c rest e h =
 
 pub read : (n : ℕ) (bytes : List ℕ) (c : Command) (rest : List ℕ) → next_of n bytes ≡ Found c rest → WasWritten bytes c rest
 read n bytes c rest h = ended_written n bytes (line_end bytes) c rest refl (sym (next_ended n bytes (line_end bytes) refl) ∙ h)
+
+-- a command is found only where there is room for one more
+line_room : (n : ℕ) (after : List ℕ) (o : Option Order) (c : Command) (rest : List ℕ) → option_map_or (λ x. limited_step n x after) o (Stopped (Bad (n + 1))) ≡ Found c rest → n < 1048576
+line_room n after None c rest h = absurd (let q : Stopped (Bad (n + 1)) ≡ Found c rest = h in cc)
+line_room n after (Some o) c rest h =
+    elim (chosen (ltb n 1048576) (order_step n o after) (Stopped TooManyCommands) (Found c rest) h) [
+      | inl p ↦ ltb-true n 1048576 p.0
+      | inr p ↦ absurd (let q : Stopped TooManyCommands ≡ Found c rest = p.1 in cc)
+    ]
+
+ended_room : (n : ℕ) (bytes : List ℕ) (end : LineEnd) (c : Command) (rest : List ℕ) → ended_step n end bytes ≡ Found c rest → n < 1048576
+ended_room n bytes TooLong c rest h = absurd (let q : Stopped (Bad (n + 1)) ≡ Found c rest = h in cc)
+ended_room n bytes Unfinished c rest h = absurd (let q : Stopped (Cut (n + 1)) ≡ Found c rest = h in cc)
+ended_room n bytes (Whole len) c rest h = line_room n (drop (len + 1) bytes) (order_of (take len bytes)) c rest h
+
+pub room : (n : ℕ) (bytes : List ℕ) (c : Command) (rest : List ℕ) → next_of n bytes ≡ Found c rest → n < 1048576
+room n bytes c rest h = ended_room n bytes (line_end bytes) c rest (sym (next_ended n bytes (line_end bytes) refl) ∙ h)
+
+-- more bytes behind a command that is found change nothing
+pub found_more : (n : ℕ) (bytes more : List ℕ) (c : Command) (rest : List ℕ) → next_of n bytes ≡ Found c rest → next_of n (bytes ++ more) ≡ Found c (rest ++ more)
+found_more n bytes more c rest h =
+    let w = read n bytes c rest h in
+    ap (next_of n) (ap (λ (xs : List ℕ). xs ++ more) w.text ∙ append_assoc (command_text c) rest more) ∙ written n c (rest ++ more) w.command (room n bytes c rest h)
+
+-- a command that is found before some bytes is found without them
+pub found_without : (n : ℕ) (bytes more : List ℕ) (c : Command) (rest : List ℕ) → next_of n (bytes ++ more) ≡ Found c (rest ++ more) → next_of n bytes ≡ Found c rest
+found_without n bytes more c rest h =
+    let w = read n (bytes ++ more) c (rest ++ more) h in
+    let text : bytes ≡ command_text c ++ rest = append_cancel_right bytes (command_text c ++ rest) more (w.text ∙ sym (append_assoc (command_text c) rest more)) in
+    ap (next_of n) text ∙ written n c rest w.command (room n (bytes ++ more) c (rest ++ more) h)

@@ -1,25 +1,16 @@
 -- The next command, by the line at the front.
-use Rattle.std.proofs.Common.{◌≡◌, ◌<◌, ◌≤◌, ◌+◌, ◌⊎◌, ◌==◌, inl, inr, Bool, true, false, cond, eqb, ltb, leb, refl, List, ℕ, [], ◌∷◌, ◌++◌, length, take, drop, get_or, sym, ap, subst, ◌∙◌, arith, append_assoc, append-nil, length-append, length-drop, length-take, Option, Some, None}
-use Rattle.std.specs.Option.{option_map_or}
-use Rattle.std.proofs.lemmas.Bool.{cond-true, cond-false, ltb-true, ltb-false, lt-ltb, le-ltb, leb-true, leb-false, le-leb, lt-leb, eqb-true, eq-eqb, ne_eqb}
-use Rattle.std.proofs.lemmas.List.{append_cancel_left, drop-append-le, drop_at, drop_more, get_or_append_left, get_or_at, take-append-drop, take-append-le, take_at, take_all}
-use Rattle.mt_path.specs.Names.{is_root}
-use Rattle.mt_script.specs.Commands.{IsCommand, IsPathText, behind_line, command_text, line_text, put_line}
+use Rattle.std.proofs.Common.{◌≡◌, ◌<◌, ◌≤◌, ◌+◌, true, false, eqb, ltb, leb, refl, List, ℕ, ◌++◌, length, take, drop, get_or, ap, ◌∙◌, arith, Some, None}
+use Rattle.std.proofs.lemmas.Bool.{cond-true, cond-false, lt-ltb, le-ltb, le-leb, lt-leb, eq-eqb, ne_eqb}
+use Rattle.std.proofs.lemmas.List.{drop-append-le, take-append-le}
 use Rattle.mt_script.specs.Orders.{order_of}
-use Rattle.mt_script.specs.Reads.{IsOrder}
-use Rattle.mt_script.specs.Steps.{Step, Found, Stopped, ended_step, limited_step, line_end, line_len, line_step, next_of, order_step, put_step}
-use Rattle.mt_script.specs.declared.command.Command.{Command}
-use Rattle.mt_script.specs.declared.command.Command.TheVariants.{Put, Del, Rescan, Build, End}
-use Rattle.mt_script.specs.declared.fault.ScriptFault.{ScriptFault}
+use Rattle.mt_script.specs.Steps.{Found, Stopped, ended_step, limited_step, line_end, line_step, next_of, order_step, put_step}
+use Rattle.mt_script.specs.declared.command.Command.TheVariants.{Put}
 use Rattle.mt_script.specs.declared.fault.ScriptFault.TheVariants.{Bad, Cut, FileTooLarge, TooManyCommands}
 use Rattle.mt_script.specs.declared.line.LineEnd.{LineEnd}
 use Rattle.mt_script.specs.declared.line.LineEnd.TheVariants.{Whole, TooLong, Unfinished}
 use Rattle.mt_script.specs.declared.order.Order.{Order}
 use Rattle.mt_script.specs.declared.order.Order.TheVariants as order
-use Rattle.mt_script.proofs.Choices.{chosen}
-use Rattle.mt_script.proofs.Endings.{EndsAt, ends_line, is_long, is_whole, line_parts, long_stays, when_long, when_whole, whole_stays}
-use Rattle.mt_script.proofs.Spelling.{line_no_feed, line_order, line_short, order_for}
-use Rattle.mt_script.proofs.Telling.{Tells, told_by}
+use Rattle.mt_script.proofs.Endings.{EndsAt, is_long, is_whole, long_stays, when_long, when_whole, whole_stays}
 
 -- a step whose line ends so
 pub next_ended : (n : ℕ) (bytes : List ℕ) (end : LineEnd) → line_end bytes ≡ end → next_of n bytes ≡ ended_step n end bytes

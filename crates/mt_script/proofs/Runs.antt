@@ -76,7 +76,7 @@ written_from : (cs : List Command) (n : ℕ) (more : List ℕ) → All IsCommand
 written_from [] n more each on room = script_ended n (command_text End ++ more) more (written n End more (record { path = tt; writable = tt }) (omega arith))
 written_from (c ∷ cs) n more each on room =
     let all : script_text (c ∷ cs) ++ command_text End ++ more ≡ command_text c ++ (script_text cs ++ command_text End ++ more) =
-        ap (λ (xs : List ℕ). xs ++ more) (append_assoc (command_text c) (script_text cs) (command_text End)) ∙ append_assoc (command_text c) (script_text cs ++ command_text End) more in
+    ap (λ (xs : List ℕ). xs ++ more) (append_assoc (command_text c) (script_text cs) (command_text End)) ∙ append_assoc (command_text c) (script_text cs ++ command_text End) more in
     ap (script_from n) all
     ∙ script_found n (command_text c ++ (script_text cs ++ command_text End ++ more)) c (script_text cs ++ command_text End ++ more) (on 0 c (omega arith)) (written n c (script_text cs ++ command_text End ++ more) (each 0 c (omega arith)) (omega arith))
     ∙ ap (with_command c) (written_from cs (n + 1) more (λ k d l. each (suc k) d (omega arith)) (λ k d l. on (suc k) d (omega arith)) (omega arith))

@@ -1,5 +1,5 @@
 -- The lines of commands: they have no line feed, are short, are UTF-8, and ask for their command.
-use Rattle.std.proofs.Common.{◌≡◌, ◌<◌, ◌≤◌, ◌+◌, ◌^◌, ◌==◌, ◌&&◌, not, Bool, true, false, cond, eqb, ltb, refl, List, ℕ, [], ◌∷◌, ◌++◌, length, sym, ap, ◌∙◌, arith, codes, length-append, lit<, lit≤, Option, Some, None}
+use Rattle.std.proofs.Common.{◌≡◌, ◌<◌, ◌≤◌, ◌^◌, ◌==◌, ◌&&◌, not, Bool, true, false, ltb, refl, List, ℕ, [], ◌∷◌, ◌++◌, length, sym, ap, ◌∙◌, arith, codes, length-append, lit<, lit≤, Some}
 use Rattle.std.specs.Char.{is_ascii_digit}
 use Rattle.std.specs.Fmt.{decimal}
 use Rattle.std.specs.List.{flat_map, list_all}
@@ -17,7 +17,7 @@ use Rattle.mt_path.proofs.Folders.{text_of_segments}
 use Rattle.mt_path.proofs.Laws.{path_short}
 use Rattle.mt_path.proofs.Paths.{bytes_of, segments_all}
 use Rattle.mt_script.specs.Commands.{IsCommand, IsPathText, line_text, put_line}
-use Rattle.mt_script.specs.Orders.{around_last_blank, file_path, order_of, put_of, put_order, words_order}
+use Rattle.mt_script.specs.Orders.{file_path, order_of, put_of}
 use Rattle.mt_script.specs.declared.command.Command.{Command}
 use Rattle.mt_script.specs.declared.command.Command.TheVariants.{Put, Del, Rescan, Build, End}
 use Rattle.mt_script.specs.declared.order.Order.{Order}

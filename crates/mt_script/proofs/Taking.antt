@@ -1,15 +1,15 @@
 -- The steps of the reader: what its parts give joined to what the bytes say.
-use Rattle.std.proofs.Common.{◌≡◌, ◌<◌, ◌≤◌, ◌+◌, refl, List, ℕ, [], ◌∷◌, ◌++◌, length, take, drop, get_or, sym, ap, subst, ◌∙◌, arith, append_assoc, length-append, length-take, Option, Some, None}
+use Rattle.std.proofs.Common.{◌≡◌, ◌<◌, ◌≤◌, ◌+◌, List, ℕ, ◌++◌, length, take, drop, get_or, sym, ap, subst, ◌∙◌, arith, append_assoc, length-take, Option, Some, None}
 use Rattle.std.proofs.Math.Seq.{take-add}
 use Rattle.std.proofs.lemmas.List.{drop-drop, get_or-take, take-append-drop, take-take}
 use Rattle.mt_io.specs.Told.{Reading, read_on}
 use Rattle.mt_script.specs.Orders.{order_of}
 use Rattle.mt_script.specs.Reads.{Finds, Holds, Interrupted, IsOf, IsSpent, Lacks, Ordered, ReadOn, Takes}
-use Rattle.mt_script.specs.Steps.{Step, Found, Stopped, limited_step, line_end, next_of, order_step, put_step}
+use Rattle.mt_script.specs.Steps.{Step, Found, Stopped, limited_step, line_end, next_of, put_step}
 use Rattle.mt_script.specs.declared.command.Command.{Command}
 use Rattle.mt_script.specs.declared.command.Command.TheVariants.{Put}
 use Rattle.mt_script.specs.declared.fault.ScriptFault.{ScriptFault}
-use Rattle.mt_script.specs.declared.fault.ScriptFault.TheVariants.{Bad, Cut, FileTooLarge, TooManyCommands, Failed, NoMemory}
+use Rattle.mt_script.specs.declared.fault.ScriptFault.TheVariants.{Bad, Cut}
 use Rattle.mt_script.specs.declared.line.LineEnd.TheVariants.{Whole, TooLong, Unfinished}
 use Rattle.mt_script.specs.declared.order.Order.{Order}
 use Rattle.mt_script.specs.declared.order.Order.TheVariants as order

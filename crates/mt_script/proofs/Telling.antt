@@ -1,8 +1,7 @@
 -- What a line that asks for something is spelled like.
-use Rattle.std.proofs.Common.{◌≡◌, ◌<◌, ◌+◌, ◌⊎◌, ◌==◌, inl, inr, Bool, true, false, cond, eqb, refl, List, ℕ, [], ◌∷◌, ◌++◌, length, take, drop, get_or, sym, ap, subst, ◌∙◌, arith, codes, length-append, lit<, Option, Some, None, Result, Ok, Err, nat_eq}
+use Rattle.std.proofs.Common.{◌≡◌, inl, inr, true, false, cond, refl, List, ℕ, [], ◌∷◌, ◌++◌, length, drop, get_or, sym, ap, subst, ◌∙◌, arith, codes, length-append, lit<, Option, Some, None, Result, Ok, Err, nat_eq}
 use Rattle.std.specs.Fmt.{decimal}
 use Rattle.std.specs.List.{starts_with}
-use Rattle.std.specs.Option.{option_and_then, option_map}
 use Rattle.std.specs.Result.{result_ok}
 use Rattle.std.specs.Str.{IsUtf8, bytes_eq, is_utf8}
 use Rattle.std.proofs.lemmas.Bool.Decides.{Decides-eqb}
@@ -12,11 +11,11 @@ use Rattle.std.proofs.lemmas.Str.{IsCharBoundary-after_ascii, IsCharBoundary-bef
 use Rattle.mt_path.specs.Names.{is_root}
 use Rattle.mt_path.specs.Parse.{IsPath, parsed}
 use Rattle.mt_path.specs.declared.path.PathFault.{PathFault}
-use Rattle.mt_script.specs.Commands.{IsCommand, IsPathText, behind_line, line_text, put_line}
+use Rattle.mt_script.specs.Commands.{IsCommand, behind_line, line_text, put_line}
 use Rattle.mt_script.specs.Orders.{around_last_blank, del_order, file_path, order_of, put_of, put_order, size_of, words_order}
 use Rattle.mt_script.specs.Reads.{IsOrder}
 use Rattle.mt_script.specs.declared.command.Command.{Command}
-use Rattle.mt_script.specs.declared.command.Command.TheVariants.{Put, Del, Rescan, Build, End}
+use Rattle.mt_script.specs.declared.command.Command.TheVariants.{Del, Rescan, Build, End}
 use Rattle.mt_script.specs.declared.order.Order.{Order}
 use Rattle.mt_script.specs.declared.order.Order.TheVariants as order
 use Rattle.mt_script.proofs.Blanks.{cut_joined}
@@ -115,22 +114,22 @@ words_told line o u h =
     elim (chosen (bytes_eq line (codes "rescan")) _ _ (Some o) h) [
       | inl p ↦ word_told line (codes "rescan") Rescan o p.0 p.1 refl refl (record { path = tt; writable = tt })
       | inr p ↦ elim (chosen (bytes_eq line (codes "build")) _ _ (Some o) p.1) [
-          | inl q ↦ word_told line (codes "build") Build o q.0 q.1 refl refl (record { path = tt; writable = tt })
-          | inr q ↦ elim (chosen (bytes_eq line (codes "end")) _ _ (Some o) q.1) [
-              | inl r ↦ word_told line (codes "end") End o r.0 r.1 refl refl (record { path = tt; writable = tt })
-              | inr r ↦ elim (chosen (starts_with nat_eq line (codes "del ")) _ _ (Some o) r.1) [
-                  | inl s ↦
-                      let whole : line ≡ codes "del " ++ drop 4 line = (starts_is Decides-eqb line (codes "del ") (starts_with nat_eq line (codes "del ")) refl).0 s.0 in
-                      subst (λ (xs : List ℕ). Tells xs o) (sym whole) (del_told (drop 4 line) o (subst IsUtf8 whole u) s.1)
-                  | inr s ↦ elim (chosen (starts_with nat_eq line (codes "put ")) _ _ (Some o) s.1) [
-                      | inl t ↦
-                          let whole : line ≡ codes "put " ++ drop 4 line = (starts_is Decides-eqb line (codes "put ") (starts_with nat_eq line (codes "put ")) refl).0 t.0 in
-                          subst (λ (xs : List ℕ). Tells xs o) (sym whole) (put_told (drop 4 line) o (subst IsUtf8 whole u) t.1)
-                      | inr t ↦ absurd (nothing o t.1)
-                    ]
-                ]
+        | inl q ↦ word_told line (codes "build") Build o q.0 q.1 refl refl (record { path = tt; writable = tt })
+        | inr q ↦ elim (chosen (bytes_eq line (codes "end")) _ _ (Some o) q.1) [
+          | inl r ↦ word_told line (codes "end") End o r.0 r.1 refl refl (record { path = tt; writable = tt })
+          | inr r ↦ elim (chosen (starts_with nat_eq line (codes "del ")) _ _ (Some o) r.1) [
+            | inl s ↦
+                let whole : line ≡ codes "del " ++ drop 4 line = (starts_is Decides-eqb line (codes "del ") (starts_with nat_eq line (codes "del ")) refl).0 s.0 in
+                subst (λ (xs : List ℕ). Tells xs o) (sym whole) (del_told (drop 4 line) o (subst IsUtf8 whole u) s.1)
+            | inr s ↦ elim (chosen (starts_with nat_eq line (codes "put ")) _ _ (Some o) s.1) [
+              | inl t ↦
+                  let whole : line ≡ codes "put " ++ drop 4 line = (starts_is Decides-eqb line (codes "put ") (starts_with nat_eq line (codes "put ")) refl).0 t.0 in
+                  subst (λ (xs : List ℕ). Tells xs o) (sym whole) (put_told (drop 4 line) o (subst IsUtf8 whole u) t.1)
+              | inr t ↦ absurd (nothing o t.1)
             ]
+          ]
         ]
+      ]
     ]
 
 -- a line that asks for an order is spelled so

@@ -1,8 +1,8 @@
 -- What a line asks for, by its text.
-use Rattle.std.proofs.Common.{◌≡◌, Bool, true, false, refl, List, ℕ, [], ◌∷◌, ◌++◌, sym, ap, ◌∙◌, Option, Some, None}
+use Rattle.std.proofs.Common.{◌≡◌, true, refl, List, ℕ, Some, None}
 use Rattle.std.specs.Str.{is_utf8, IsUtf8}
 use Rattle.std.proofs.lemmas.Bool.{cond-true, cond-false, false_from_ne_true}
-use Rattle.std.proofs.lemmas.Str.{is_utf8-from_IsUtf8, IsUtf8-from_is_utf8}
+use Rattle.std.proofs.lemmas.Str.{IsUtf8-from_is_utf8}
 use Rattle.mt_script.specs.Orders.{around_last_blank, file_path, order_of, put_of, put_order, size_of, words_order}
 
 -- a line in UTF-8

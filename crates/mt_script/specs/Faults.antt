@@ -3,7 +3,7 @@ use Rattle.std.specs.Prelude.{ℕ, ◌≡◌, ◌≤◌, ◌⊎◌, Result, Ok, 
 use Rattle.mt_io.specs.Causes.{Rose}
 use Rattle.mt_script.specs.declared.command.Command.{Command}
 use Rattle.mt_script.specs.declared.fault.ScriptFault.{ScriptFault}
-use Rattle.mt_script.specs.declared.fault.ScriptFault.TheVariants.{Bad, Cut, FileTooLarge, TooManyCommands, Failed, NoMemory}
+use Rattle.mt_script.specs.declared.fault.ScriptFault.TheVariants.{FileTooLarge, Failed, NoMemory}
 
 -- the fault that keeps a path
 abbrev pub HasPath : ScriptFault → Type 0

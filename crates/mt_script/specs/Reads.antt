@@ -1,7 +1,6 @@
 -- What calls of a source add to the bytes in hand, and what a reader of commands tells of them.
-use Rattle.std.specs.Prelude.{ℕ, ◌+◌, ◌≡◌, false, ◌<◌, ◌≤◌, ◌⊎◌, List, [], ◌++◌, length, take, drop, Option, Some, None, Result, Ok, Err, IsErrOf}
+use Rattle.std.specs.Prelude.{ℕ, ◌≡◌, false, ◌<◌, ◌≤◌, List, [], ◌++◌, length, take, drop, Option, Some}
 use Rattle.std.specs.Option.{IfSome}
-use Rattle.mt_io.specs.Causes.{Rose}
 use Rattle.mt_io.specs.Told.{Reading, read_on}
 use Rattle.mt_path.specs.Names.{is_root}
 use Rattle.mt_script.specs.Commands.{IsCommand, IsPathText}
@@ -10,7 +9,7 @@ use Rattle.mt_script.specs.declared.command.Command.{Command}
 use Rattle.mt_script.specs.declared.fault.ScriptFault.{ScriptFault}
 use Rattle.mt_script.specs.declared.order.Order.{Order}
 use Rattle.mt_script.specs.declared.order.Order.TheVariants as order
-use Rattle.mt_script.specs.declared.fault.ScriptFault.TheVariants.{Bad, Cut, FileTooLarge, TooManyCommands, Failed, NoMemory}
+use Rattle.mt_script.specs.declared.fault.ScriptFault.TheVariants.{Cut, Failed, NoMemory}
 
 -- a reader of commands: the bytes that were read and belong to no command given, the commands given, and the fault
 pub record Progress : Type 0 where

@@ -1,8 +1,8 @@
 -- A whole script: its commands, and how they end.
 use Rattle.std.specs.Prelude.{ℕ, zero, suc, ◌+◌, List, [], ◌∷◌, length, Option, Some, None}
-use Rattle.mt_script.specs.Steps.{Step, Found, Stopped, next_of}
+use Rattle.mt_script.specs.Steps.{Found, Stopped, next_of}
 use Rattle.mt_script.specs.declared.command.Command.{Command}
-use Rattle.mt_script.specs.declared.command.Command.TheVariants.{Put, Del, Rescan, Build, End}
+use Rattle.mt_script.specs.declared.command.Command.TheVariants.{End}
 use Rattle.mt_script.specs.declared.fault.ScriptFault.{ScriptFault}
 use Rattle.mt_script.specs.declared.fault.ScriptFault.TheVariants.{Cut}
 

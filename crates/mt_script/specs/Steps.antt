@@ -1,5 +1,5 @@
 -- The next command of a script, at the front of its bytes.
-use Rattle.std.specs.Prelude.{ℕ, Bool, ◌+◌, ◌==◌, List, length, take, drop, nat_lt, nat_le, slice_index, if◌then◌else◌}
+use Rattle.std.specs.Prelude.{ℕ, ◌+◌, ◌==◌, List, length, take, drop, nat_lt, nat_le, slice_index, if◌then◌else◌}
 use Rattle.std.specs.Option.{option_map_or}
 use Rattle.std.specs.List.{position_or_len}
 use Rattle.mt_script.specs.Commands.{line_feed, most_bytes}

@@ -22,7 +22,12 @@ pub enum Command {
 }
 
 /// Puts the line of a `put`, without its line feed, behind the bytes.
-fn push_put_line(alloc: Global, text: &mut Bytes, path: &Path, size: usize) -> Result<(), AllocError>
+fn push_put_line(
+    alloc: Global,
+    text: &mut Bytes,
+    path: &Path,
+    size: usize,
+) -> Result<(), AllocError>
     ensures ok { OnOk result (text.new ≡ text.old ++ put_line path.now size) }
 {
     text.extend(b"put ")?;

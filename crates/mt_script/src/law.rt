@@ -13,5 +13,6 @@ pub fn law_of_scripts()
     ensures written { (n : ℕ) (command : Command) (rest : List ℕ) → IsCommand command → n < 1048576 → next_of n (command_text command ++ rest) ≡ Found command rest }
     ensures text { (n : ℕ) (bytes : List ℕ) (command : Command) (rest : List ℕ) → next_of n bytes ≡ Found command rest → bytes ≡ command_text command ++ rest }
     ensures command { (n : ℕ) (bytes : List ℕ) (command : Command) (rest : List ℕ) → next_of n bytes ≡ Found command rest → IsCommand command }
+    ensures count { (n : ℕ) (bytes : List ℕ) (command : Command) (rest : List ℕ) → next_of n bytes ≡ Found command rest → n < 1048576 }
     ensures script { (commands : List Command) (more : List ℕ) → All IsCommand commands → All GoesOn commands → length commands < 1048576 → script_of (script_text commands ++ command_text End ++ more) ≡ record { commands = commands; ending = None } }
 {}

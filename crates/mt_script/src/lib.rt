@@ -12,6 +12,8 @@ mod law;
 mod line;
 mod order;
 mod reader;
+#[cfg(test)]
+mod tests;
 
 pub use command::{Command, write_command};
 pub use fault::ScriptFault;

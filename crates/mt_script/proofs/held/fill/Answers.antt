@@ -1,4 +1,4 @@
-use Rattle.std.proofs.Common.{◌≡◌, ◌+◌, ◌<◌, ◌∙◌, length, take, arith, List, ℕ, length-take}
+use Rattle.std.proofs.Common.{◌≡◌, ◌+◌, ◌∙◌, arith, length-take}
 use Rattle.mt_io.specs.Told.{read_on}
 use Rattle.mt_script.proofs.Choices.{on_err}
 use Rattle.mt_script.proofs.Readings.{holds_then, lacks_then}

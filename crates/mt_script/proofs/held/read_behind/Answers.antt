@@ -1,4 +1,4 @@
-use Rattle.std.proofs.Common.{length, arith, ◌<◌}
+use Rattle.std.proofs.Common.{length, arith}
 use Rattle.mt_script.proofs.Readings.{read_holds, read_spent}
 use Rattle.mt_script.proofs.held.read_behind.Goals as goal
 

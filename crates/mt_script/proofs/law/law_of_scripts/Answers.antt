@@ -1,4 +1,4 @@
-use Rattle.mt_script.proofs.Laws.{read, written}
+use Rattle.mt_script.proofs.Laws.{read, room, written}
 use Rattle.mt_script.proofs.Runs.{whole_script}
 use Rattle.mt_script.proofs.law.law_of_scripts.Goals as goal
 
@@ -13,3 +13,6 @@ returns-clause-command c = λ n bytes command rest h. (read n bytes command rest
 
 pub returns-clause-script : goal.returns-clause-script
 returns-clause-script c = whole_script
+
+pub returns-clause-count : goal.returns-clause-count
+returns-clause-count c = room

@@ -1,4 +1,4 @@
-use Rattle.std.proofs.Common.{◌≡◌, ◌∙◌, length, take, sym, ap, arith, Some, None, Ok}
+use Rattle.std.proofs.Common.{◌≡◌, ◌∙◌, length, take, sym, ap, arith, Ok}
 use Rattle.mt_script.specs.Orders.{order_of}
 use Rattle.mt_script.specs.Steps.{line_end}
 use Rattle.mt_script.specs.declared.line.LineEnd.TheVariants.{Whole}

@@ -1,4 +1,4 @@
-use Rattle.std.proofs.Common.{◌≡◌, ◌∙◌, ◌+◌, ◌<◌, length, take, get_or, sym, ap, arith, length-take, Err}
+use Rattle.std.proofs.Common.{◌∙◌, sym, ap, Err}
 use Rattle.std.proofs.lemmas.List.{get_or_read}
 use Rattle.mt_script.proofs.Taking.{put_failed, put_refused, put_taken, taken_inside}
 use Rattle.mt_script.proofs.reader.read_put.Goals as goal

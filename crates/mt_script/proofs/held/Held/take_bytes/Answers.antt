@@ -1,4 +1,4 @@
-use Rattle.std.proofs.Common.{◌≡◌, ◌∙◌, length, sym, ap, arith, List, ℕ, take, drop}
+use Rattle.std.proofs.Common.{◌≡◌, ◌∙◌, length, ap, arith, List, ℕ, take}
 use Rattle.std.proofs.lemmas.List.{take_at}
 use Rattle.mt_script.proofs.Readings.{IsReady, held_read, lacks_all, lacks_read, spent_short, takes_all}
 use Rattle.mt_script.proofs.held.Held.take_bytes.Goals as goal
