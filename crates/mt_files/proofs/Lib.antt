@@ -5,3 +5,6 @@ pub mod Gathered
 pub mod Takes
 pub mod Laws
 pub mod Reaches
+pub mod Unions
+pub mod Rescans
+pub mod Counts
