@@ -1,11 +1,10 @@
 -- The changes between two snapshots lead from the one to the other, and none is too many.
-use Rattle.std.proofs.Common.{inl, inr, ◌⊎◌, ◌≡◌, ◌≢◌, ◌||◌, ◌∙◌, ℕ, Bool, true, false, cond, List, [], ◌∷◌, ◌++◌, map, Option, Some, None, refl, sym, ap, subst, is_some, append_assoc}
-use Rattle.std.specs.List.{All, AllByRecursion, cons_option, filter_map, fold, list_any}
+use Rattle.std.proofs.Common.{inl, inr, ◌⊎◌, ◌≡◌, ◌||◌, ◌∙◌, ℕ, Bool, true, false, cond, List, [], ◌∷◌, ◌++◌, map, Option, Some, None, refl, sym, ap, subst, is_some}
+use Rattle.std.specs.List.{All, AllByRecursion, cons_option, filter_map, list_any}
 use Rattle.std.specs.List.Sorted.{IsStrictlySortedBy}
-use Rattle.std.specs.Option.{option_eq, option_map_or}
+use Rattle.std.specs.Option.{option_eq}
 use Rattle.std.specs.Ordering.{nat_cmp, eq_by_cmp}
 use Rattle.std.specs.declared.cmp.Ordering.TheVariants.{Less}
-use Rattle.std.specs.declared.cmp.Ordering.{Ordering}
 use Rattle.std.specs.Cmp.Lexicographic.{slice_cmp, nat_list_cmp_total}
 use Rattle.std.specs.FinMap.{contains_key-keys, get, get-insert, get-remove, keys, same_map, slice_cmp-IsAntisymmetric, nat_cmp-IsAntisymmetric}
 use Rattle.std.specs.FinMap.{from_entries}
@@ -17,7 +16,6 @@ use Rattle.mt_io.proofs.Tables.{keys_sorted}
 use Rattle.mt_files.specs.declared.file_map.Entry.{Entry}
 use Rattle.mt_files.specs.declared.file_map.Entry.TheVariants.{Source, Other}
 use Rattle.mt_files.specs.declared.change.Change.{Change}
-use Rattle.mt_files.specs.declared.change.Change.TheVariants.{Put, Del}
 use Rattle.mt_files.specs.Snapshots.{Snapshot}
 use Rattle.mt_files.specs.Changes.{entry_after, path_of, stepped, stepped_by}
 use Rattle.mt_files.specs.Fresh.{ascending}
@@ -200,11 +198,3 @@ changes_matter old new = effects old new (ascending (keys old ++ keys new))
 pub gathered_start : (old new : Snapshot) (changes : List Change) (paths : List (List ℕ)) → changes ≡ [] → paths ≡ ascending (keys old ++ keys new) → changes ++ filter_map (change_at old new) paths ≡ changes_between old new
 unfolding changes_between
 gathered_start old new changes paths none all = ap (λ cs. cs ++ filter_map (change_at old new) paths) none ∙ ap (filter_map (change_at old new)) all
-
--- one more change, or none
-pub gathered_step :
-    (old new : Snapshot) (changes next total : List Change) (path : List ℕ) (paths : List (List ℕ)) (o : Option Change) → changes ++ filter_map (change_at old new) (path ∷ paths) ≡ total → o ≡ change_at old new path
-    → next ≡ option_map_or (λ change. changes ++ change ∷ []) o changes → next ++ filter_map (change_at old new) paths ≡ total
-gathered_step old new changes next total path paths None h is e = ap (λ cs. cs ++ filter_map (change_at old new) paths) e ∙ ap (λ o. changes ++ cons_option o (filter_map (change_at old new) paths)) is ∙ h
-gathered_step old new changes next total path paths (Some change) h is e =
-    ap (λ cs. cs ++ filter_map (change_at old new) paths) e ∙ append_assoc changes (change ∷ []) (filter_map (change_at old new) paths) ∙ ap (λ o. changes ++ cons_option o (filter_map (change_at old new) paths)) is ∙ h

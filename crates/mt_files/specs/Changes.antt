@@ -1,5 +1,5 @@
 -- Changes of files, and what they make of a snapshot.
-use Rattle.std.specs.Prelude.{◌≡◌, ℕ, List, Option, Some, None}
+use Rattle.std.specs.Prelude.{ℕ, List, Option, Some, None}
 use Rattle.std.specs.List.{fold}
 use Rattle.std.specs.FinMap.{insert, remove}
 use Rattle.mt_files.specs.Snapshots.{Snapshot, IsEntryOf}

@@ -1,5 +1,5 @@
 -- The journal: changes in the order in which they came, as many as its two limits leave room for.
-use Rattle.std.specs.Prelude.{ℕ, ◌≤◌, ◌+◌, Bool, not, ◌||◌, List, ◌∷◌, [], ◌++◌, length, nat_lt, if◌then◌else◌, Result, Ok, Err}
+use Rattle.std.specs.Prelude.{ℕ, ◌≤◌, ◌+◌, Bool, not, ◌||◌, List, length, nat_lt, if◌then◌else◌, Result, Ok, Err}
 use Rattle.std.specs.List.{All, sum_by}
 use Rattle.mt_files.specs.declared.file_map.Entry.TheVariants.{Source}
 use Rattle.mt_files.specs.declared.change.Change.{Change}

@@ -214,7 +214,6 @@ pub struct Taken {
 }
 
 // Takes a source of these bytes, unless it or all sources are too large.
-#[tactic(auto, using(crate::proofs::Counts::counted_more))]
 fn take_source(alloc: Global, path: Path, bytes: Bytes, taken: &mut Taken) -> Result<(), CrawlFault>
     requires source { is_source path ≡ true }
     requires few { taken.old.count < MOST_FILES }
@@ -237,7 +236,6 @@ fn take_source(alloc: Global, path: Path, bytes: Bytes, taken: &mut Taken) -> Re
 }
 
 // Takes a file, unless there are too many, and reads it if it is a source.
-#[tactic(auto, using(crate::proofs::Counts::counted_more))]
 fn take_file<F: Folder>(
     alloc: Global,
     folder: &mut F,
