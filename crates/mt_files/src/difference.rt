@@ -16,6 +16,9 @@ use mt_io::Folder;
 use mt_path::Path;
 use std::alloc::{AllocError, Global};
 
+#[cfg(test)]
+mod tests;
+
 // The paths of both snapshots.
 fn paths_of(alloc: Global, old: &FileMap, new: &FileMap) -> Result<PathSet, AllocError>
     ensures paths { IfOk result (λ paths. map.keys paths ≡ ascending (map.keys old.now ++ map.keys new.now)) }

@@ -8,6 +8,9 @@ use std::alloc::{AllocFailed, Global};
 use std::marker::Model;
 use thiserror::Error;
 
+#[cfg(test)]
+mod tests;
+
 /// The most changes that a journal holds.
 pub const MOST_CHANGES: usize = 65_536;
 
