@@ -8,3 +8,4 @@ pub mod Reaches
 pub mod Unions
 pub mod Rescans
 pub mod Counts
+pub mod Sole

@@ -35,13 +35,13 @@ entry_itself : (a : Entry) → same_entry a a ≡ true
 entry_itself (Source a) = has_self a
 entry_itself Other = refl
 
-kept_same : (a b : Option Entry) → option_eq same_entry a b ≡ true → a ≡ b
+pub kept_same : (a b : Option Entry) → option_eq same_entry a b ≡ true → a ≡ b
 kept_same None None h = refl
 kept_same (Some a) (Some b) h = ap Some (same_entries a b h)
 kept_same None (Some b) h = cc
 kept_same (Some a) None h = cc
 
-kept_itself : (a : Option Entry) → option_eq same_entry a a ≡ true
+pub kept_itself : (a : Option Entry) → option_eq same_entry a a ≡ true
 kept_itself None = refl
 kept_itself (Some a) = entry_itself a
 

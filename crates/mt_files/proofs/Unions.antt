@@ -52,7 +52,7 @@ keys-marked xs h = ap (map (λ e. e.0)) (entries_table (marked xs) (subst (IsStr
 get-marked : (xs : List (List ℕ)) (q : List ℕ) → get (from_entries {R = slice_cmp nat_cmp} (marked xs)) q ≡ cond (list_any (bytes_eq q) xs) (Some tt) None
 get-marked xs q = get-from_entries nat_list_cmp_total (marked xs) q ∙ find_made (λ p. tt) xs q
 
-same_paths :
+pub same_paths :
     (xs ys : List (List ℕ)) → IsStrictlySortedBy (slice_cmp nat_cmp) xs → IsStrictlySortedBy (slice_cmp nat_cmp) ys → ((q : List ℕ) → list_any (bytes_eq q) xs ≡ list_any (bytes_eq q) ys)
     → xs ≡ ys
 same_paths xs ys h k same =

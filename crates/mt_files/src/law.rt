@@ -7,6 +7,7 @@ ghost use Rattle.std.specs.List.Sorted.{IsStrictlySortedBy};
 ghost use Rattle.std.specs.Str.{bytes_eq};
 ghost use Rattle.mt_files.specs.Reach.{ends, reach};
 ghost use Rattle.mt_files.specs.Snapshots.{Snapshot};
+ghost use Rattle.mt_files.specs.declared.change.Change.{Change};
 ghost use Rattle.mt_files.specs.Changes.{path_of, stepped_by};
 ghost use Rattle.mt_files.specs.Rescans.{HasEffect, changes_between};
 
@@ -18,10 +19,11 @@ pub fn law_of_reach()
 {}
 
 /// Does nothing, and carries a law: the changes between two snapshots lead from the one to the other, by ascending path
-/// and none without effect; so there are none from a snapshot to itself.
+/// and none without effect, and no other changes do so. So there are none from a snapshot to itself.
 pub fn law_of_rescans()
     ensures leads { (old new : Snapshot) → stepped_by old (changes_between old new) ≡ new }
     ensures none { (files : Snapshot) → changes_between files files ≡ [] }
     ensures each { (old new : Snapshot) → IsStrictlySortedBy (slice_cmp nat_cmp) (map path_of (changes_between old new)) }
     ensures effect { (old new : Snapshot) → All (HasEffect old) (changes_between old new) }
+    ensures only { (old new : Snapshot) (changes : List Change) → stepped_by old changes ≡ new → IsStrictlySortedBy (slice_cmp nat_cmp) (map path_of changes) → All (HasEffect old) changes → changes ≡ changes_between old new }
 {}
