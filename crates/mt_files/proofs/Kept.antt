@@ -2,7 +2,7 @@
 use Rattle.std.proofs.Common.{◌≡◌, ◌∙◌, ℕ, Bool, true, false, cond, List, Option, Some, None, refl, sym, subst}
 use Rattle.std.specs.Ordering.{nat_cmp, eq_by_cmp}
 use Rattle.std.specs.Cmp.Lexicographic.{slice_cmp, nat_list_cmp_total}
-use Rattle.std.specs.FinMap.{empty, get, insert, get-empty, get-insert}
+use Rattle.std.specs.FinMap.{empty, get, insert, remove, get-empty, get-insert, get-remove}
 use Rattle.mt_path.specs.Parse.{IsPath}
 use Rattle.mt_io.proofs.Children.{tied_is}
 use Rattle.mt_files.specs.declared.file_map.Entry.{Entry}
@@ -25,3 +25,10 @@ kept_by files key path value entry false h p f e is = h path entry is
 pub insert_kept : (files : Snapshot) (key : List ℕ) (value : Entry) → IsSnapshot files → IsPath key → IsEntryOf key value → IsSnapshot (insert files key value)
 insert_kept files key value h p f path entry is =
     kept_by files key path value entry (eq_by_cmp (slice_cmp nat_cmp) path key) h p f refl (sym (get-insert nat_list_cmp_total files key value path) ∙ is)
+
+left_by : (files : Snapshot) (key path : List ℕ) (entry : Entry) (b : Bool) → IsSnapshot files → cond b None (get files path) ≡ Some entry → IsPath path × IsEntryOf path entry
+left_by files key path entry true h is = cc
+left_by files key path entry false h is = h path entry is
+
+pub remove_kept : (files : Snapshot) (key : List ℕ) → IsSnapshot files → IsSnapshot (remove files key)
+remove_kept files key h path entry is = left_by files key path entry (eq_by_cmp (slice_cmp nat_cmp) path key) h (sym (get-remove nat_list_cmp_total files key path) ∙ is)

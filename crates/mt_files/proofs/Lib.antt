@@ -5,3 +5,7 @@ pub mod Gathered
 pub mod Takes
 pub mod Laws
 pub mod Reaches
+pub mod Unions
+pub mod Rescans
+pub mod Counts
+pub mod Sole

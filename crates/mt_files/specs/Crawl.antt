@@ -1,8 +1,8 @@
 -- The snapshot that a crawl makes of a folder's files, or the first limit that it meets.
-use Rattle.std.specs.Prelude.{ℕ, List, Option, None, [], ◌≡◌, ◌+◌, length, nat_lt, if◌then◌else◌, Result, Ok, Err}
+use Rattle.std.specs.Prelude.{ℕ, List, Option, None, [], ◌≡◌, ◌≤◌, ◌+◌, length, nat_lt, if◌then◌else◌, Result, Ok, Err}
 use Rattle.std.specs.List.{fold}
 use Rattle.std.specs.Option.{option_map, unwrap_or}
-use Rattle.std.specs.FinMap.{empty, get, insert}
+use Rattle.std.specs.FinMap.{empty, get, insert, len}
 use Rattle.mt_path.specs.Names.{is_source}
 use Rattle.mt_io.specs.Files.{Files}
 use Rattle.mt_files.specs.declared.file_map.Entry.{Entry}
@@ -24,6 +24,10 @@ most_bytes = 1073741824
 -- nothing
 abbrev pub nothing_taken : Taken
 nothing_taken = record { files = empty; count = 0; bytes = 0 }
+
+-- what was taken is no more than was counted, and that is not too much
+abbrev pub IsCounted : Taken → Type 0
+IsCounted taken = (len taken.files ≤ taken.count) × (taken.count ≤ most_files)
 
 -- a source of these bytes is taken, unless it or all sources are too large
 abbrev pub with_source : List ℕ → List ℕ → Taken → Result Taken CrawlFault

@@ -1,5 +1,6 @@
 pub mod Snapshots
 pub mod Changes
+pub mod Journals
 pub mod Walks
 pub mod Crawl
 pub mod Faults
@@ -7,3 +8,4 @@ pub mod Resolve
 pub mod Edges
 pub mod Reach
 pub mod Fresh
+pub mod Rescans

@@ -5,8 +5,10 @@ ghost use Rattle.mt_io.specs.Files.{Files};
 ghost use Rattle.mt_files.specs.Snapshots.{IsEntryOf, IsSnapshot, Snapshot, source_at};
 ghost use Rattle.mt_files.specs.Crawl.{crawled, entry_in};
 ghost use Rattle.mt_files.specs.Changes.{IsChange, stepped};
+ghost use Rattle.mt_files.specs.Rescans.{same_entry, with_paths};
 
 use crate::change::Change;
+use crate::walk::PathSet;
 use mt_path::Path;
 use mt_tokens::{Bytes, Shared};
 use std::alloc::{AllocError, Global};
@@ -33,6 +35,17 @@ impl Entry {
         match self {
             Entry::Source(bytes) => Ok(Entry::Source(bytes.share()?)),
             Entry::Other => Ok(Entry::Other),
+        }
+    }
+
+    /// Whether both entries are the same: sources of the same bytes, or no sources.
+    pub fn is_same(&self, other: &Entry) -> bool
+        ensures same { result ≡ same_entry self.now other.now }
+    {
+        match (self, other) {
+            (Entry::Source(bytes), Entry::Source(others)) => bytes.get() == others.get(),
+            (Entry::Other, Entry::Other) => true,
+            _ => false,
         }
     }
 }
@@ -102,6 +115,16 @@ impl FileMap {
             Some(Entry::Source(bytes)) => Some(bytes),
             _ => None,
         }
+    }
+
+    /// Puts the paths of the files into a set.
+    pub(crate) fn add_paths(&self, paths: &mut PathSet) -> Result<(), AllocError>
+        ensures paths { OnOk result (paths.new ≡ with_paths paths.old (map.keys self.now)) }
+    {
+        for path in self.files.keys() {
+            paths.insert(path.clone()?)?;
+        }
+        Ok(())
     }
 
     /// Keeps an entry for a file. After an `Err` the snapshot is as it was.

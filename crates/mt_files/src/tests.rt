@@ -9,16 +9,20 @@ use std::alloc::{AllocError, Global};
 use std::collections::BTreeMap;
 use std::process::Abort;
 
-fn path(rt: &impl Abort, alloc: Global, text: &str) -> Path {
+pub(crate) fn path(rt: &impl Abort, alloc: Global, text: &str) -> Path {
     Path::parse(alloc, text).expect(rt, "a path")
 }
 
-fn add(tree: &mut BTreeMap<Path, Bytes>, path: Path, bytes: Bytes) -> Result<(), AllocError> {
+pub(crate) fn add(
+    tree: &mut BTreeMap<Path, Bytes>,
+    path: Path,
+    bytes: Bytes,
+) -> Result<(), AllocError> {
     tree.insert(path, bytes)?;
     Ok(())
 }
 
-fn files(rt: &impl Abort, alloc: Global, texts: &[&str]) -> BTreeMap<Path, Bytes> {
+pub(crate) fn files(rt: &impl Abort, alloc: Global, texts: &[&str]) -> BTreeMap<Path, Bytes> {
     let mut tree = BTreeMap::new(alloc);
     for text in texts {
         let bytes = Bytes::from_slice(alloc, text.as_bytes()).expect(rt, "memory");

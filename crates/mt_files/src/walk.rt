@@ -8,7 +8,7 @@ ghost use Rattle.mt_path.specs.Names.{is_source};
 ghost use Rattle.mt_io.specs.Causes.{Rose};
 ghost use Rattle.mt_io.specs.Files.{Files, IsChildrenOf};
 ghost use Rattle.mt_files.specs.Walks.{Gathered, is_hidden, met_with, places_with, walk_of};
-ghost use Rattle.mt_files.specs.Crawl.{IsStep, crawled, files_of, nothing_taken, with_file, with_files, with_source};
+ghost use Rattle.mt_files.specs.Crawl.{IsCounted, IsStep, crawled, files_of, most_files, nothing_taken, with_file, with_files, with_source};
 
 use super::fault::CrawlFault;
 use super::file_map::{Entry, FileMap, MOST_SOURCE_BYTES};
@@ -28,7 +28,7 @@ pub const MOST_BYTES: u64 = 1_073_741_824;
 /// A set of paths, which contracts see as a finite map to nothing.
 #[derive(Drop)]
 pub struct PathSet {
-    tree: BTreeMap<Path, ()>,
+    pub(crate) tree: BTreeMap<Path, ()>,
 }
 
 impl Model for PathSet {
@@ -46,7 +46,7 @@ impl Model for PathSet {
 }
 
 impl PathSet {
-    fn new(alloc: Global) -> PathSet
+    pub(crate) fn new(alloc: Global) -> PathSet
         ensures empty { result ≡ map.empty }
     {
         PathSet {
@@ -54,7 +54,7 @@ impl PathSet {
         }
     }
 
-    fn insert(&mut self, path: Path) -> Result<(), AllocError>
+    pub(crate) fn insert(&mut self, path: Path) -> Result<(), AllocError>
         ensures ok { OnOk result (self.new ≡ map.insert self.old path tt) }
     {
         self.tree.insert(path, ())?;
@@ -218,6 +218,7 @@ fn take_source(alloc: Global, path: Path, bytes: Bytes, taken: &mut Taken) -> Re
     requires source { is_source path ≡ true }
     requires few { taken.old.count < MOST_FILES }
     ensures exact { (result ≡ Err CrawlFault.NoMemory) ⊎ IsStep (with_source path bytes taken.old) taken.new result }
+    ensures counted { IsCounted taken.old → IsCounted taken.new }
 {
     let size = bytes.len();
     if size > MOST_SOURCE_BYTES {
@@ -242,6 +243,7 @@ fn take_file<F: Folder>(
     taken: &mut Taken,
 ) -> Result<(), CrawlFault>
     ensures exact { (tree : Files) → F.told folder.old ≡ Some tree → (result ≡ Err CrawlFault.NoMemory) ⊎ (result ≡ Err CrawlFault.Failed) ⊎ IsStep (with_file tree taken.old path.now) taken.new result }
+    ensures counted { IsCounted taken.old → IsCounted taken.new }
     ensures same { F.told folder.new ≡ F.told folder.old }
     ensures later { F.count folder.old ≤ F.count folder.new }
     ensures failed { IsErrOf result CrawlFault.Failed → Rose (F.count folder.old) (F.count folder.new) }
@@ -264,6 +266,7 @@ fn take_files<F: Folder>(
     paths: &PathSet,
 ) -> Result<FileMap, CrawlFault>
     ensures exact { (tree : Files) → F.told folder.old ≡ Some tree → (result ≡ Err CrawlFault.NoMemory) ⊎ (result ≡ Err CrawlFault.Failed) ⊎ (result ≡ files_of (with_files tree (Ok nothing_taken) (map.keys paths.now))) }
+    ensures few { IfOk result (λ files. map.len files ≤ most_files) }
     ensures same { F.told folder.new ≡ F.told folder.old }
     ensures later { F.count folder.old ≤ F.count folder.new }
     ensures failed { IsErrOf result CrawlFault.Failed → Rose (F.count folder.old) (F.count folder.new) }
@@ -291,6 +294,7 @@ fn take_files<F: Folder>(
 /// `MOST_SOURCE_BYTES` bytes, then more than `MOST_BYTES` bytes of sources.
 pub fn crawl<F: Folder>(alloc: Global, folder: &mut F) -> Result<FileMap, CrawlFault>
     ensures exact { (tree : Files) → F.told folder.old ≡ Some tree → (result ≡ Err CrawlFault.NoMemory) ⊎ (result ≡ Err CrawlFault.Failed) ⊎ (result ≡ crawled tree) }
+    ensures few { IfOk result (λ files. map.len files ≤ most_files) }
     ensures same { F.told folder.new ≡ F.told folder.old }
     ensures later { F.count folder.old ≤ F.count folder.new }
     ensures failed { IsErrOf result CrawlFault.Failed → Rose (F.count folder.old) (F.count folder.new) }

@@ -3,6 +3,7 @@ use Rattle.std.specs.Prelude.{Ok}
 use Rattle.std.specs.FinMap.{keys}
 use Rattle.mt_io.proofs.Tables.{keys_table}
 use Rattle.mt_files.specs.Crawl.{nothing_taken, with_files}
+use Rattle.mt_files.proofs.Counts.{counted_none}
 use Rattle.mt_files.proofs.Takes.{ended_by}
 use Rattle.mt_files.proofs.walk.take_files.Goals as goal
 
@@ -12,6 +13,7 @@ loop-path-init g c =
     c.into_iter-path-iterator.ensures.into_iter_gives ∙ c.keys-path-items.ensures.rest ∙ sym (keys_table c.paths.inside.tree c.keys-path-items.ensures.ordered) ∙ ap keys c.paths.view_is in
     record {
       left = λ tree told. rw c.new.ensures.empty (ap (with_files tree (Ok nothing_taken)) all);
+      counted = rw c.new.ensures.empty counted_none;
       same = refl;
       later = omega arith;
     }
