@@ -1,10 +1,10 @@
 -- Pieces that are gathered one after another. A function that gathers pieces names `laws` in `#[tactic(auto, using(..))]`.
-use Rattle.std.proofs.Common.{◌≡◌, ◌<◌, ◌≤◌, ◌+◌, ℕ, List, [], ◌∷◌, ◌++◌, length, take, drop, get_or, append-nil, Option, append_assoc, refl, ap, ◌∙◌, sym, subst, take_all}
+use Rattle.std.proofs.Common.{◌≡◌, ◌<◌, ◌≤◌, ◌+◌, ℕ, List, [], ◌∷◌, ◌++◌, length, take, drop, get_or, append-nil, Option, append_assoc, ap, ◌∙◌, sym, subst, take_all}
 use Rattle.std.specs.List.{flat_map}
 use Rattle.std.proofs.lemmas.List.{take-append-drop, take_more}
 use Rattle.std.proofs.lemmas.Grind.{flat_map-append}
 use Rattle.mt_io.specs.Told.{Grows, GrowsByPrefix}
-use Rattle.mt_io.proofs.Growth.{grows_none, grows_then, part_all, part_more, part_then}
+use Rattle.mt_io.proofs.Growth.{grows_none, grows_then, part_more, part_then}
 use Rattle.mt_fresh.specs.Gather.{Gathers}
 
 -- what is only kept

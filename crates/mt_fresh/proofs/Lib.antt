@@ -10,3 +10,4 @@ pub mod Gathering
 pub mod Numbering
 pub mod Quoting
 pub mod Sizes
+pub mod Firsts

@@ -1,18 +1,18 @@
 -- A fresh graph has so many modules at most.
-use Rattle.std.proofs.Common.{◌≡◌, ◌≤◌, ◌+◌, ◌∙◌, ℕ, Bool, true, false, cond, List, [], ◌∷◌, map, filter, length, Option, Some, None, Result, Ok, Err, refl, ap, sym, arith, nat_lt, if◌then◌else◌, subst}
+use Rattle.std.proofs.Common.{◌≡◌, ◌≤◌, ◌+◌, ◌∙◌, ℕ, Bool, true, false, cond, List, [], ◌∷◌, map, filter, length, Option, Some, None, Ok, refl, ap, sym, arith, nat_lt, if◌then◌else◌, subst}
 use Rattle.std.specs.List.{filter_map, flat_map, cons_option}
 use Rattle.std.specs.Option.{is_some, option_map, option_and_then}
 use Rattle.std.specs.Result.{result_ok}
 use Rattle.std.specs.Ordering.{nat_cmp}
 use Rattle.std.specs.Cmp.Lexicographic.{slice_cmp, nat_list_cmp_total}
-use Rattle.std.specs.FinMap.{from_entries, insert, contains_key, keys, len, len-empty, len-insert, entries}
+use Rattle.std.specs.FinMap.{from_entries, contains_key, keys, len, len-empty, len-insert}
 use Rattle.std.proofs.lemmas.Bool.Decides.{nat_tests}
 use Rattle.mt_io.proofs.Tables.{entries_table, keys_sorted}
 use Rattle.mt_files.specs.Snapshots.{Snapshot, has_source, source_at}
 use Rattle.mt_files.specs.Edges.{faults_at, kind_of}
 use Rattle.mt_fresh.specs.Output.{output_of}
 use Rattle.mt_files.specs.Reach.{reach}
-use Rattle.mt_files.specs.Fresh.{all_faults, decided, members}
+use Rattle.mt_files.specs.Fresh.{decided, members}
 use Rattle.mt_fresh.specs.Graphs.{GraphMap, found_of, fresh_graph, graph_of, module_at}
 use Rattle.mt_fresh.specs.Rows.{row, rows_of}
 use Rattle.mt_fresh.specs.declared.rows.Row.{Row}

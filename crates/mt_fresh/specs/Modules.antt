@@ -2,6 +2,13 @@
 use Rattle.std.specs.Prelude.{ℕ, Bool, List, [], ◌∷◌, ◌++◌, drop, if◌then◌else◌, codes, ◌==◌, ◌||◌}
 use Rattle.std.specs.List.{flat_map, join_by}
 use Rattle.std.specs.Fmt.{decimal}
+use Rattle.mt_fresh.specs.declared.mt_write.Slot.{Slot}
+use Rattle.mt_fresh.specs.declared.mt_write.Slot.TheVariants.{Module, Empty}
+
+-- a slot in the text of a module: the number of the module that a dependency leads to, or `null`
+abbrev pub slot_text : Slot → List ℕ
+slot_text (Module number) = decimal number
+slot_text Empty = codes "null"
 
 -- the line that begins each module
 unfoldable pub module_head : List ℕ
@@ -23,12 +30,12 @@ quoted_path path = codes ",\"" ++ escaped (drop 1 path) ++ codes "\""
 abbrev pub path_text : Bool → List ℕ → List ℕ
 path_text dev path = if dev then quoted_path path else []
 
--- a module's number, the numbers of its dependencies joined by `,`, and its path
-abbrev pub module_tail : ℕ → List ℕ → List ℕ → Bool → List ℕ
-module_tail number path slots dev = codes "\n}," ++ decimal number ++ codes ",[" ++ join_by decimal (codes ",") slots ++ codes "]" ++ path_text dev path ++ codes ");\n"
+-- a module's number, its slots joined by `,`, and its path
+abbrev pub module_tail : ℕ → List ℕ → List Slot → Bool → List ℕ
+module_tail number path slots dev = codes "\n}," ++ decimal number ++ codes ",[" ++ join_by slot_text (codes ",") slots ++ codes "]" ++ path_text dev path ++ codes ");\n"
 
 -- the text of a module
-abbrev pub module_of : ℕ → List ℕ → List ℕ → List ℕ → Bool → List ℕ
+abbrev pub module_of : ℕ → List ℕ → List ℕ → List Slot → Bool → List ℕ
 module_of number path body slots dev = module_head ++ body ++ module_tail number path slots dev
 
 -- the line that starts a module

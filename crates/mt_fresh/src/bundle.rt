@@ -5,14 +5,14 @@ ghost use Rattle.std.specs.Str.{bytes_eq};
 ghost use Rattle.std.specs.FinMap as table;
 ghost use Rattle.mt_io.specs.Causes.{HasCause, HasOneCause};
 ghost use Rattle.mt_io.specs.Told.{Grows, GrowsByPrefix};
-ghost use Rattle.mt_fresh.specs.Bundle.{AreNumbers, bundle_by, bundle_of, module_text_at, number_in, numbering};
+ghost use Rattle.mt_fresh.specs.Bundle.{AreNumbers, bundle_by, bundle_of, module_text_at, number_in, numbering, slot_in};
 ghost use Rattle.mt_fresh.specs.Gather.{Gathers};
 ghost use Rattle.mt_fresh.specs.Modules.{start_of};
 
 use crate::gather::{Kept, flush};
 use crate::graph::{Graph, PathList};
 use crate::mt_transform::Options;
-use crate::mt_write::{put_head, put_module, put_start};
+use crate::mt_write::{Slot, put_head, put_module, put_start};
 use mt_io::{Failed, Sink, Trouble};
 use mt_path::Path;
 use std::alloc::{AllocError, Global};
@@ -119,20 +119,20 @@ fn number_of(paths: &[Path], numbers: &Numbers, path: &Path) -> u32
     }
 }
 
-/// The numbers of the paths that a module requires.
+/// The slots of a module that requires these paths.
 fn slots(
     alloc: Global,
     paths: &[Path],
     numbers: &Numbers,
     targets: &[Path],
-) -> Result<Vec<u32>, AllocError>
+) -> Result<Vec<Slot>, AllocError>
     requires few { length paths.now ≤ 65552 }
     requires numbers { AreNumbers paths.now numbers.now }
-    ensures slots { IfOk result (λ slots. slots.items ≡ map (number_in paths.now) targets.now) }
+    ensures slots { IfOk result (λ slots. slots.items ≡ map (slot_in paths.now) targets.now) }
 {
     let mut slots = Vec::with_capacity(alloc, targets.len())?;
     for target in targets {
-        slots.push(number_of(paths, numbers, target))?;
+        slots.push(Slot::Module(number_of(paths, numbers, target)))?;
     }
     Ok(slots)
 }
@@ -164,7 +164,7 @@ fn put_at<S: Sink>(
         kept,
         number,
         path,
-        found.output.body.as_slice(),
+        found.output.get().body.as_slice(),
         slots.as_slice(),
         dev,
         sink,

@@ -1,10 +1,12 @@
 //! The modules of a build.
-ghost use Rattle.std.specs.Prelude.{◌≡◌, [], ◌∷◌, ◌++◌, length, IfOk, OnOk, OnErr, IfNone, IsTrue, ◌↔◌};
-ghost use Rattle.std.specs.Option.{option_map_or, option_copied};
+ghost use Rattle.std.specs.Prelude.{◌≡◌, [], ◌∷◌, ◌++◌, length, Some, IfOk, OnOk, OnErr, IfNone, IfSome, IsTrue, ◌↔◌};
+ghost use Rattle.std.specs.Option.{option_map, option_map_or, option_copied};
+ghost use Rattle.std.specs.List.{slice_get};
 ghost use Rattle.std.specs.FinMap as map;
 
 use crate::mt_transform::Output;
 use mt_path::Path;
+use mt_tokens::Shared;
 use std::alloc::{AllocError, Global};
 use std::collections::BTreeMap;
 use std::marker::Model;
@@ -86,7 +88,7 @@ impl Clone for PathList {
 /// A module of a build: what its source became, and for each of its names the path that it leads to.
 #[derive(Drop)]
 pub struct Found {
-    pub output: Output,
+    pub output: Shared<Output>,
     pub targets: PathList,
 }
 
@@ -152,6 +154,16 @@ impl Graph {
             paths.push(path.clone()?)?;
         }
         Ok(paths)
+    }
+
+    /// Takes out the module whose path is the first. Without modules there is nothing to take.
+    pub fn pop_first(&mut self) -> Option<(Path, Found)>
+        ensures first { option_map (λ m. m.0) result ≡ slice_get (map.keys self.old) 0 }
+        ensures found { IfSome result (λ m. map.get self.old m.0 ≡ Some m.1) }
+        ensures rest { IfSome result (λ m. self.new ≡ map.remove self.old m.0) }
+        ensures none { IfNone result (self.old ≡ map.empty) }
+    {
+        self.modules.pop_first()
     }
 
     pub(crate) fn insert(&mut self, path: Path, found: Found) -> Result<(), AllocError>

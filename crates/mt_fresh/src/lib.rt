@@ -21,5 +21,5 @@ pub use mt_deps::{Dep, DepFault, DepList, Use, deps};
 pub use mt_files::BuildFault;
 pub use mt_resolve::{Resolution, Target, resolve};
 pub use mt_transform::{Options, Output, path_kind, transform};
-pub use mt_write::{module_text, write_head, write_module, write_start};
+pub use mt_write::{Slot, module_text, write_head, write_module, write_start};
 pub use traversal::{MOST_MODULES, traverse};

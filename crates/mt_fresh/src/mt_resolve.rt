@@ -59,7 +59,7 @@ fn is_exact_name(name: &str) -> bool
 /// leads anywhere.
 ///
 /// Refused only for want of memory.
-#[tactic(auto, unfolding(crate::specs::Resolve::resolved))]
+#[tactic(auto, unfolding(mt_files::specs::Resolve::resolved))]
 pub fn resolve(
     alloc: Global,
     files: &FileMap,

@@ -5,13 +5,22 @@ ghost use Rattle.mt_io.specs.Causes.{HasOneCause};
 ghost use Rattle.mt_io.specs.Told.{Grows, GrowsByPrefix};
 ghost use Rattle.mt_fresh.specs.Bundle.{prelude, prelude_end, dev_line, plain_line};
 ghost use Rattle.mt_fresh.specs.Gather.{Gathers};
-ghost use Rattle.mt_fresh.specs.Modules.{escaped, escaped_byte, module_head, module_of, module_tail, path_text, quoted_path, start_of};
+ghost use Rattle.mt_fresh.specs.Modules.{escaped, escaped_byte, module_head, module_of, module_tail, path_text, quoted_path, slot_text, start_of};
 
 use crate::gather::{Kept, flush, gather, gather_number};
 use mt_io::{Failed, Sink};
 use mt_path::Path;
 use mt_tokens::Bytes;
 use std::alloc::{AllocError, Global};
+
+/// What stands for a dependency in the text of a module.
+#[derive(Clone, Copy, Debug, PartialEq, Eq)]
+pub enum Slot {
+    /// The number of the module that it leads to.
+    Module(u32),
+    /// Nothing: the dependency leads to no module.
+    Empty,
+}
 
 /// What stands before the modules, behind the line that says whether the bundle is for development.
 fn prelude_bytes() -> &'static [u8]
@@ -128,26 +137,43 @@ pub(crate) fn put_path<S: Sink>(
     }
 }
 
-/// Gathers a `,` and a number.
-pub(crate) fn put_next_slot<S: Sink>(kept: &mut Kept, slot: u32, sink: &mut S) -> Result<(), Failed>
-    ensures all { OnOk result (Gathers (S.told sink.old) (S.told sink.new) kept.old.items (codes "," ++ decimal slot) kept.new.items) }
-    ensures part { OnErr result (GrowsByPrefix (S.told sink.old) (S.told sink.new) (kept.old.items ++ (codes "," ++ decimal slot))) }
+/// Gathers a slot: its number, or `null`.
+pub(crate) fn put_slot<S: Sink>(kept: &mut Kept, slot: Slot, sink: &mut S) -> Result<(), Failed>
+    ensures all { OnOk result (Gathers (S.told sink.old) (S.told sink.new) kept.old.items (slot_text slot) kept.new.items) }
+    ensures part { OnErr result (GrowsByPrefix (S.told sink.old) (S.told sink.new) (kept.old.items ++ slot_text slot)) }
+    ensures cause { HasOneCause (S.count sink.old) (S.count sink.new) result }
+    ensures apart { S.beside sink.new ≡ S.beside sink.old }
+{
+    match slot {
+        Slot::Module(number) => gather_number(kept, number, sink),
+        Slot::Empty => gather(kept, b"null", sink),
+    }
+}
+
+/// Gathers a `,` and a slot.
+pub(crate) fn put_next_slot<S: Sink>(
+    kept: &mut Kept,
+    slot: Slot,
+    sink: &mut S,
+) -> Result<(), Failed>
+    ensures all { OnOk result (Gathers (S.told sink.old) (S.told sink.new) kept.old.items (codes "," ++ slot_text slot) kept.new.items) }
+    ensures part { OnErr result (GrowsByPrefix (S.told sink.old) (S.told sink.new) (kept.old.items ++ (codes "," ++ slot_text slot))) }
     ensures cause { HasOneCause (S.count sink.old) (S.count sink.new) result }
     ensures apart { S.beside sink.new ≡ S.beside sink.old }
 {
     gather(kept, b",", sink)?;
-    gather_number(kept, slot, sink)?;
+    put_slot(kept, slot, sink)?;
     Ok(())
 }
 
-/// Gathers numbers with a `,` before each.
+/// Gathers slots with a `,` before each.
 pub(crate) fn put_next_slots<S: Sink>(
     kept: &mut Kept,
-    slots: &[u32],
+    slots: &[Slot],
     sink: &mut S,
 ) -> Result<(), Failed>
-    ensures all { OnOk result (Gathers (S.told sink.old) (S.told sink.new) kept.old.items (flat_map (λ slot. codes "," ++ decimal slot) slots.now) kept.new.items) }
-    ensures part { OnErr result (GrowsByPrefix (S.told sink.old) (S.told sink.new) (kept.old.items ++ (flat_map (λ slot. codes "," ++ decimal slot) slots.now))) }
+    ensures all { OnOk result (Gathers (S.told sink.old) (S.told sink.new) kept.old.items (flat_map (λ slot. codes "," ++ slot_text slot) slots.now) kept.new.items) }
+    ensures part { OnErr result (GrowsByPrefix (S.told sink.old) (S.told sink.new) (kept.old.items ++ (flat_map (λ slot. codes "," ++ slot_text slot) slots.now))) }
     ensures cause { HasOneCause (S.count sink.old) (S.count sink.new) result }
     ensures apart { S.beside sink.new ≡ S.beside sink.old }
 {
@@ -157,28 +183,28 @@ pub(crate) fn put_next_slots<S: Sink>(
     Ok(())
 }
 
-/// Gathers numbers, joined by `,`.
+/// Gathers slots, joined by `,`.
 #[tactic(auto, using(crate::proofs::Gathering::gathers_none))]
-pub(crate) fn put_slots<S: Sink>(kept: &mut Kept, slots: &[u32], sink: &mut S) -> Result<(), Failed>
-    ensures all { OnOk result (Gathers (S.told sink.old) (S.told sink.new) kept.old.items (join_by decimal (codes ",") slots.now) kept.new.items) }
-    ensures part { OnErr result (GrowsByPrefix (S.told sink.old) (S.told sink.new) (kept.old.items ++ (join_by decimal (codes ",") slots.now))) }
+pub(crate) fn put_slots<S: Sink>(kept: &mut Kept, slots: &[Slot], sink: &mut S) -> Result<(), Failed>
+    ensures all { OnOk result (Gathers (S.told sink.old) (S.told sink.new) kept.old.items (join_by slot_text (codes ",") slots.now) kept.new.items) }
+    ensures part { OnErr result (GrowsByPrefix (S.told sink.old) (S.told sink.new) (kept.old.items ++ (join_by slot_text (codes ",") slots.now))) }
     ensures cause { HasOneCause (S.count sink.old) (S.count sink.new) result }
     ensures apart { S.beside sink.new ≡ S.beside sink.old }
 {
     let [first, rest @ ..] = slots else {
         return Ok(());
     };
-    gather_number(kept, *first, sink)?;
+    put_slot(kept, *first, sink)?;
     put_next_slots(kept, rest, sink)?;
     Ok(())
 }
 
-/// Gathers the end of a module: its number, the numbers of its dependencies, and its path.
+/// Gathers the end of a module: its number, its slots, and its path.
 pub(crate) fn put_tail<S: Sink>(
     kept: &mut Kept,
     number: u32,
     path: &Path,
-    slots: &[u32],
+    slots: &[Slot],
     dev: bool,
     sink: &mut S,
 ) -> Result<(), Failed>
@@ -203,7 +229,7 @@ pub(crate) fn put_module<S: Sink>(
     number: u32,
     path: &Path,
     body: &[u8],
-    slots: &[u32],
+    slots: &[Slot],
     dev: bool,
     sink: &mut S,
 ) -> Result<(), Failed>
@@ -247,7 +273,7 @@ pub fn write_head<S: Sink>(dev: bool, sink: &mut S) -> Result<(), Failed>
     flush(&mut kept, sink)
 }
 
-/// Writes a module with its number, its path, its body and the numbers of its dependencies. The path stands there only in
+/// Writes a module with its number, its path, its body and a slot for each dependency. The path stands there only in
 /// a bundle for development.
 ///
 /// It takes no memory. After an `Err` the sink has taken a front part of those bytes, or none.
@@ -256,7 +282,7 @@ pub fn write_module<S: Sink>(
     number: u32,
     path: &Path,
     body: &[u8],
-    slots: &[u32],
+    slots: &[Slot],
     dev: bool,
     sink: &mut S,
 ) -> Result<(), Failed>
@@ -324,14 +350,14 @@ impl Sink for Memory {
     }
 }
 
-/// The text of a module with its number, its path, its body and the numbers of its dependencies, as `write_module`
+/// The text of a module with its number, its path, its body and a slot for each dependency, as `write_module`
 /// writes it. Refused only for want of memory.
 pub fn module_text(
     alloc: Global,
     number: u32,
     path: &Path,
     body: &[u8],
-    slots: &[u32],
+    slots: &[Slot],
     dev: bool,
 ) -> Result<Bytes, AllocError>
     ensures exact { IfOk result (λ text. text ≡ module_of number path.now body.now slots.now dev) }

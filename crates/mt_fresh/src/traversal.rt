@@ -16,7 +16,7 @@ use crate::mt_transform::{Options, Output, path_kind, transform};
 use crate::rows::{Row, Rows};
 use mt_files::{BuildFault, FileMap};
 use mt_path::Path;
-use mt_tokens::SourceFault;
+use mt_tokens::{Shared, SourceFault};
 use std::alloc::{AllocError, Global};
 
 /// Where the names of an output lead, and the fault of the first that leads nowhere.
@@ -117,7 +117,7 @@ fn follow(
 }
 
 /// The row of a module that these links leave.
-fn linked(output: Output, links: Links) -> Result<Visit, AllocError>
+fn linked(alloc: Global, output: Output, links: Links) -> Result<Visit, AllocError>
     ensures row { IfOk result (λ visit. visit.row ≡ option_map_or Row.Refused links.fault (Row.Made (record { output = output; targets = links.targets }))) }
     ensures targets { IfOk result (λ visit. visit.targets ≡ links.targets) }
 {
@@ -129,7 +129,7 @@ fn linked(output: Output, links: Links) -> Result<Visit, AllocError>
         }),
         None => {
             let found = Found {
-                output,
+                output: Shared::new(alloc, output)?,
                 targets: targets.clone()?,
             };
             Ok(Visit {
@@ -169,7 +169,7 @@ fn read_module(
         }
     };
     let links = follow(alloc, files, options, path, &output)?;
-    linked(output, links)
+    linked(alloc, output, links)
 }
 
 /// Reads the entries, and all that they reach.

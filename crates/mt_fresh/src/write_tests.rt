@@ -3,7 +3,7 @@ ghost use Rattle.std.specs.Prelude.{◌≡◌};
 
 use crate::mt_resolve::resolve;
 use crate::{
-    Found, Graph, Options, Output, PathList, Target, fault_text, module_text, write_bundle, write_head,
+    Found, Graph, Options, Output, PathList, Slot, Target, fault_text, module_text, write_bundle, write_head,
     write_module, write_start,
 };
 use mt_files::{BuildFault, Change, Entry, FileMap};
@@ -78,10 +78,10 @@ fn a_module_has_its_number_its_slots_and_its_path(rt: HostRuntime) {
             == b"__d(function (global, require, importDefault, importAll, module, exports, dependencyMap) {\n\nx\n},0,[]);\n".as_slice()
     );
     let quoted = path(&rt, "/a\"b\\c.js");
-    let dev = module_text(rt.alloc(), 7, &quoted, b"", &[1, 20], true).expect(&rt, "memory");
+    let dev = module_text(rt.alloc(), 7, &quoted, b"", &[Slot::Module(1), Slot::Empty, Slot::Module(20)], true).expect(&rt, "memory");
     assert!(rt;
         dev.as_slice()
-            == b"__d(function (global, require, importDefault, importAll, module, exports, dependencyMap) {\n\n},7,[1,20],\"a\\\"b\\\\c.js\");\n".as_slice()
+            == b"__d(function (global, require, importDefault, importAll, module, exports, dependencyMap) {\n\n},7,[1,null,20],\"a\\\"b\\\\c.js\");\n".as_slice()
     );
 }
 
@@ -105,9 +105,9 @@ fn a_bundle_says_whether_it_is_for_development(rt: HostRuntime) {
 #[test]
 fn a_module_and_its_start_are_written(rt: HostRuntime) {
     let index = path(&rt, "/index.js");
-    let text = module_text(rt.alloc(), 3, &index, b"\ny", &[4], true).expect(&rt, "memory");
+    let text = module_text(rt.alloc(), 3, &index, b"\ny", &[Slot::Module(4)], true).expect(&rt, "memory");
     let mut sink = sink(&rt, &[]);
-    assert!(rt; write_module(3, &index, b"\ny", &[4], true, &mut sink).is_ok());
+    assert!(rt; write_module(3, &index, b"\ny", &[Slot::Module(4)], true, &mut sink).is_ok());
     assert!(rt; sink.bytes() == text.as_slice());
     assert!(rt; write_start(3, &mut sink).is_ok());
     assert!(rt; sink.bytes().ends_with(b"__r(3);\n"));
@@ -119,13 +119,14 @@ fn found(rt: &(impl Abort + AllocGlobal), body: &[u8], target: Option<&str>) -> 
         targets.push(path(rt, text)).expect(rt, "memory");
     }
     let source = Shared::new(rt.alloc(), bytes(rt, body)).expect(rt, "memory");
+    let output = Output {
+        source,
+        kind: PathKind::Script,
+        body: bytes(rt, body),
+        names: TextList::new(rt.alloc()),
+    };
     Found {
-        output: Output {
-            source,
-            kind: PathKind::Script,
-            body: bytes(rt, body),
-            names: TextList::new(rt.alloc()),
-        },
+        output: Shared::new(rt.alloc(), output).expect(rt, "memory"),
         targets,
     }
 }
@@ -160,6 +161,17 @@ fn entries_have_the_first_numbers(rt: HostRuntime) {
         assert!(rt; whole.bytes().starts_with(broken.bytes()));
         assert!(rt; written.is_ok() == (broken.faults() == 0));
     }
+}
+
+#[test]
+fn modules_are_taken_out_by_path(rt: HostRuntime) {
+    let mut graph = two_modules(&rt);
+    let (first, _) = graph.pop_first().expect(&rt, "a module");
+    assert!(rt; first.as_str() == "/a.js");
+    let (second, found) = graph.pop_first().expect(&rt, "a module");
+    assert!(rt; second.as_str() == "/z.js");
+    assert!(rt; found.output.get().body.as_slice() == b"z".as_slice());
+    assert!(rt; graph.pop_first().is_none());
 }
 
 fn told(rt: &(impl Abort + AllocGlobal), fault: BuildFault, want: &str) -> bool {
