@@ -1,3 +1,12 @@
 pub mod Tells
 pub mod Graphs
 pub mod Outcomes
+pub mod Plans
+pub mod Texts
+pub mod Bounds
+pub mod Sources
+pub mod Moves
+pub mod Replays
+pub mod Runs
+pub mod Openings
+pub mod Builds

@@ -3,12 +3,13 @@ use Rattle.std.proofs.Common.{inl, inr, ◌⊎◌, ◌≡◌, ℕ, List, Option,
 use Rattle.mt_io.specs.Told.{Grows}
 use Rattle.metro_program.specs.declared.ending.Ending.{Ending}
 use Rattle.metro_program.specs.declared.ending.Ending.TheVariants.{NoMemory}
-use Rattle.metro_program.specs.Ending.{status_of, line_of}
-use Rattle.metro_program.specs.Still.{IsAnswer, IsAnswered, IsRefusedUnread}
+use Rattle.metro_program.specs.Ending.{IsAnswer, IsAnswered, line_of, status_of}
+use Rattle.metro_program.specs.declared.words.Request.{Request}
+use Rattle.metro_program.specs.Still.{IsRefusedUnread}
 
 -- bad words give status 2, or 5 for want of memory
-pub refused_status : (w : Result (List ℕ) ℕ) (ending : Ending) (r : ℕ) → IsRefusedUnread w ending → (r ≡ status_of ending) ⊎ (r ≡ 5) → (r ≡ 2) ⊎ (r ≡ 5)
-refused_status (Ok entry) ending r h k = absurd h
+pub refused_status : (w : Result Request ℕ) (ending : Ending) (r : ℕ) → IsRefusedUnread w ending → (r ≡ status_of ending) ⊎ (r ≡ 5) → (r ≡ 2) ⊎ (r ≡ 5)
+refused_status (Ok request) ending r h k = absurd h
 refused_status (Err at) ending r h (inr five) = inr five
 refused_status (Err at) ending r (inl bad) (inl e) = inl (subst (λ x. r ≡ status_of x) bad e)
 refused_status (Err at) ending r (inr none) (inl e) = inr (subst (λ x. r ≡ status_of x) none e)

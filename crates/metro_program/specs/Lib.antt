@@ -1,4 +1,10 @@
+pub mod Digests
 pub mod Ending
 pub mod Words
+pub mod Plans
+pub mod Reports
+pub mod Replay
+pub mod Stages
+pub mod Runs
 pub mod Still
 pub mod Outcomes

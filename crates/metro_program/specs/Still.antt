@@ -1,40 +1,32 @@
--- What a run writes and how it ends, for the words and the files of a folder.
-use Rattle.std.specs.Prelude.{◌≡◌, ◌<◌, ◌⊎◌, ℕ, true, List, [], ◌∷◌, Result, Ok, Err, Option}
+-- What a run writes and how it ends, for the words, the files of a folder and the bytes of a script.
+use Rattle.std.specs.Prelude.{◌≡◌, ◌⊎◌, ℕ, Bool, true, false, List, [], ◌∷◌, Some, Result, Ok, Err, Option}
+use Rattle.std.specs.FinMap.{keys}
+use Rattle.std.specs.Option.{option_map}
 use Rattle.mt_io.specs.Files.{Files}
+use Rattle.mt_io.specs.Told.{Grows, Reading}
 use Rattle.mt_files.specs.Snapshots.{Snapshot}
 use Rattle.mt_files.specs.Crawl.{crawled}
-use Rattle.mt_fresh.specs.Graphs.{GraphMap, fresh_graph}
-use Rattle.mt_fresh.specs.Bundle.{bundle_of}
 use Rattle.mt_files.specs.declared.build_fault.BuildFault.{BuildFault}
 use Rattle.mt_files.specs.declared.fault.CrawlFault.{CrawlFault}
-use Rattle.mt_files.specs.declared.fault.CrawlFault.TheVariants as crawl
+use Rattle.mt_fresh.specs.Graphs.{GraphMap, fresh_graph}
+use Rattle.mt_revision.specs.Builds.{bundle_in}
+use Rattle.mt_revision.specs.Numberings.{extended}
 use Rattle.metro_program.specs.declared.ending.Ending.{Ending}
-use Rattle.metro_program.specs.declared.ending.Ending.TheVariants.{Done, Refused, BadWord, ReadFailed, WriteFailed, NoMemory, Limit}
-use Rattle.metro_program.specs.declared.ending.Limit.TheVariants.{File, Files as MostFiles, FolderBytes}
+use Rattle.metro_program.specs.declared.ending.Ending.TheVariants.{Done, Refused, BadWord, ReadFailed, WriteFailed, NoMemory}
+use Rattle.metro_program.specs.declared.words.Request.{Request}
+use Rattle.metro_program.specs.declared.words.Request.TheVariants.{Bundle, Replay}
 use Rattle.metro_program.specs.Words.{words_of}
-use Rattle.metro_program.specs.Ending.{status_of, line_of}
-use Rattle.mt_io.specs.Told.{Grows}
+use Rattle.metro_program.specs.Ending.{line_of}
+use Rattle.metro_program.specs.Plans.{Plan, without_bytes, crawl_ending}
+use Rattle.metro_program.specs.Replay.{replay_plan}
 
--- how a run ends, and the bytes that it writes to the output
-pub record Plan : Type 0 where
-  pub ending : Ending
-  pub bytes : List ℕ
+-- the bundle of a graph for development: its entry has the first number, and then the other modules by path
+abbrev pub first_bundle : List ℕ → GraphMap → List ℕ
+first_bundle entry graph = bundle_in true (extended [] (entry ∷ []) (keys graph)) (entry ∷ []) graph
 
--- nothing is written
-abbrev pub without_bytes : Ending → Plan
-without_bytes ending = record { ending = ending; bytes = [] }
-
--- how a run ends where the folder has no snapshot
-abbrev pub crawl_ending : CrawlFault → Ending
-crawl_ending crawl.Failed = ReadFailed
-crawl_ending (crawl.FileTooLarge path size) = Limit File
-crawl_ending crawl.TooManyFiles = Limit MostFiles
-crawl_ending crawl.TooManyBytes = Limit FolderBytes
-crawl_ending crawl.NoMemory = NoMemory
-
--- the plan of an entry's fresh graph: its bundle for development
+-- the plan of an entry's fresh graph: its bundle
 abbrev pub graph_plan : List ℕ → Result GraphMap BuildFault → Plan
-graph_plan entry (Ok graph) = record { ending = Done; bytes = bundle_of true (entry ∷ []) graph }
+graph_plan entry (Ok graph) = record { ending = Done; bytes = first_bundle entry graph }
 graph_plan entry (Err fault) = without_bytes (Refused fault)
 
 -- the plan of an entry and a snapshot
@@ -43,29 +35,27 @@ bundle_plan entry (Ok files) = graph_plan entry (fresh_graph files (entry ∷ []
 bundle_plan entry (Err fault) = without_bytes (crawl_ending fault)
 
 -- the plan of what the words ask for
-abbrev pub words_plan : Result (List ℕ) ℕ → Files → Plan
-words_plan (Ok entry) tree = bundle_plan entry (crawled tree)
-words_plan (Err at) tree = without_bytes (BadWord at)
+abbrev pub words_plan : Result Request ℕ → Files → List ℕ → Plan
+words_plan (Ok (Bundle entry)) tree script = bundle_plan entry (crawled tree)
+words_plan (Ok (Replay entry)) tree script = replay_plan tree (entry ∷ []) script
+words_plan (Err at) tree script = without_bytes (BadWord at)
 
 -- the plan of a run
-abbrev pub still : List (List ℕ) → Files → Plan
-still words tree = words_plan (words_of words) tree
+abbrev pub still : List (List ℕ) → Files → List ℕ → Plan
+still words tree script = words_plan (words_of words) tree script
 
--- a status that is no fault of the outside and no want of memory
-abbrev pub IsAnswered : ℕ → Type 0
-IsAnswered status = (status < 3) ⊎ (status ≡ 6)
+-- whether a script is read
+abbrev pub reads_script : Result Request ℕ → Bool
+reads_script (Ok (Replay entry)) = true
+reads_script request = false
 
--- an ending that is no fault of the outside and no want of memory
-abbrev pub IsAnswer : Ending → Type 0
-IsAnswer ending = IsAnswered (status_of ending)
-
--- an ending at a bad word
-abbrev pub IsBadWord : Ending → Type 0
-IsBadWord ending = status_of ending ≡ 2
+-- where a script is read, these are the bytes that it has left
+abbrev pub HasScript : Result Request ℕ → Option Reading → List ℕ → Type 0
+HasScript request told bytes = reads_script request ≡ true → option_map (λ r. r.left) told ≡ Some bytes
 
 -- bad words end the run at the first of them, or for want of memory
-abbrev pub IsRefusedUnread : Result (List ℕ) ℕ → Ending → Type 0
-IsRefusedUnread (Ok entry) ending = ⊥
+abbrev pub IsRefusedUnread : Result Request ℕ → Ending → Type 0
+IsRefusedUnread (Ok request) ending = ⊥
 IsRefusedUnread (Err at) ending = (ending ≡ BadWord at) ⊎ (ending ≡ NoMemory)
 
 -- the log has the line of a fault of the outside, or of want of memory

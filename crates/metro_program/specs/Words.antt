@@ -5,6 +5,8 @@ use Rattle.std.specs.Result.{result_ok}
 use Rattle.std.specs.Str.{bytes_eq}
 use Rattle.mt_path.specs.Parse.{parsed}
 use Rattle.mt_path.specs.Names.{is_root}
+use Rattle.metro_program.specs.declared.words.Request.{Request}
+use Rattle.metro_program.specs.declared.words.Request.TheVariants.{Bundle, Replay}
 
 -- a word that names no entry: it is empty, or it begins with `-`
 abbrev pub is_odd : List ℕ → Bool
@@ -25,7 +27,14 @@ abbrev pub entry_words : List (List ℕ) → Result (List ℕ) ℕ
 entry_words [] = Err 2
 entry_words (word ∷ more) = option_map_or (λ entry. if length more == 0 then Ok entry else Err 3) (entry_of word) (Err 2)
 
--- the entry of which the words ask a bundle, or the number of the first bad word, from 1
-abbrev pub words_of : List (List ℕ) → Result (List ℕ) ℕ
+-- what is asked for an entry, unless a word is bad
+abbrev pub asked : (List ℕ → Request) → Result (List ℕ) ℕ → Result Request ℕ
+asked request (Ok entry) = Ok (request entry)
+asked request (Err at) = Err at
+
+-- what the words ask for, or the number of the first bad word, from 1
+abbrev pub words_of : List (List ℕ) → Result Request ℕ
 words_of [] = Err 1
-words_of (word ∷ words) = if bytes_eq word (codes "bundle") then entry_words words else Err 1
+words_of (word ∷ words) =
+    if bytes_eq word (codes "bundle") then asked Bundle (entry_words words)
+    else (if bytes_eq word (codes "replay") then asked Replay (entry_words words) else Err 1)

@@ -1,8 +1,9 @@
 //! How a run ends: its status and its line on the log.
-ghost use Rattle.std.specs.Prelude.{◌≡◌, IfOk};
+ghost use Rattle.std.specs.Prelude.{◌≡◌, ◌++◌, codes, decimal, IfOk};
 ghost use Rattle.metro_program.specs.Ending.{status_of, line_of, limit_of};
+ghost use Rattle.metro_program.specs.Plans.{crawl_ending, journal_ending};
 
-use mt_files::BuildFault;
+use mt_files::{BuildFault, CrawlFault, JournalFault, MOST_CHANGES};
 use mt_fresh::fault_text;
 use mt_tokens::Text;
 use std::alloc::{AllocError, Global};
@@ -16,6 +17,12 @@ pub enum Limit {
     Files,
     /// The sources of the folder have more bytes than they may have together.
     FolderBytes,
+    /// There are more changes than a journal holds.
+    Changes,
+    /// The sources of the changes have more bytes than a journal holds.
+    JournalBytes,
+    /// The script has more commands than a script may have.
+    Commands,
 }
 
 /// How a run ends.
@@ -35,6 +42,10 @@ pub enum Ending {
     NoMemory,
     /// A stated limit was met.
     Limit(Limit),
+    /// What stands in the script is no command: its number, from 1.
+    BadCommand(u32),
+    /// The script ended in a command, or before its end was said: the number of the command, from 1.
+    CutCommand(u32),
 }
 
 impl Ending {
@@ -50,6 +61,7 @@ impl Ending {
             Ending::WriteFailed => 4,
             Ending::NoMemory => 5,
             Ending::Limit(_) => 6,
+            Ending::BadCommand(_) | Ending::CutCommand(_) => 7,
         }
     }
 
@@ -60,7 +72,11 @@ impl Ending {
         match self {
             Ending::Done => Ok(Text::new(alloc)),
             Ending::Refused(fault) => refused_line(alloc, fault),
-            Ending::BadWord(at) => word_line(alloc, *at),
+            Ending::BadWord(at) => numbered_line(alloc, "metro: word ", *at),
+            Ending::BadCommand(command) => numbered_line(alloc, "metro: script command ", *command),
+            Ending::CutCommand(command) => {
+                numbered_line(alloc, "metro: script cut in command ", *command)
+            }
             Ending::ReadFailed => Text::from_str(alloc, "metro: read failed\n"),
             Ending::WriteFailed => Text::from_str(alloc, "metro: write failed\n"),
             Ending::NoMemory => Text::from_str(alloc, "metro: out of memory\n"),
@@ -79,12 +95,12 @@ fn refused_line(alloc: Global, fault: &BuildFault) -> Result<Text, AllocError>
     Ok(line)
 }
 
-fn word_line(alloc: Global, at: u32) -> Result<Text, AllocError>
-    ensures line { IfOk result (λ text. text ≡ line_of (Ending.BadWord at)) }
+fn numbered_line(alloc: Global, what: &str, number: u32) -> Result<Text, AllocError>
+    ensures line { IfOk result (λ text. text ≡ what.now ++ decimal number ++ codes "\n") }
 {
-    let mut line = Text::from_str(alloc, "metro: word ")?;
-    let number = at.to_string(alloc)?;
-    line.push_str(number.as_str())?;
+    let mut line = Text::from_str(alloc, what)?;
+    let digits = number.to_string(alloc)?;
+    line.push_str(digits.as_str())?;
     line.push_str("\n")?;
     Ok(line)
 }
@@ -96,5 +112,37 @@ fn limit_line(limit: Limit) -> &'static str
         Limit::File => "metro: limit file 16777216\n",
         Limit::Files => "metro: limit files 262144\n",
         Limit::FolderBytes => "metro: limit folder-bytes 1073741824\n",
+        Limit::Changes => "metro: limit changes 65536\n",
+        Limit::JournalBytes => "metro: limit journal-bytes 1073741824\n",
+        Limit::Commands => "metro: limit commands 1048576\n",
+    }
+}
+
+/// How a run ends where the folder has no snapshot.
+pub fn unread(fault: &CrawlFault) -> Ending
+    ensures ending { result ≡ crawl_ending fault.now }
+{
+    match fault {
+        CrawlFault::Failed => Ending::ReadFailed,
+        CrawlFault::FileTooLarge { .. } => Ending::Limit(Limit::File),
+        CrawlFault::TooManyFiles => Ending::Limit(Limit::Files),
+        CrawlFault::TooManyBytes => Ending::Limit(Limit::FolderBytes),
+        CrawlFault::NoMemory => Ending::NoMemory,
+    }
+}
+
+/// How a run ends where the journal has no room.
+pub fn full(fault: &JournalFault) -> Ending
+    ensures ending { result ≡ journal_ending fault.now }
+{
+    match fault {
+        JournalFault::JournalFull { changes, .. } => {
+            if (*changes as usize) < MOST_CHANGES {
+                Ending::Limit(Limit::JournalBytes)
+            } else {
+                Ending::Limit(Limit::Changes)
+            }
+        }
+        JournalFault::NoMemory => Ending::NoMemory,
     }
 }

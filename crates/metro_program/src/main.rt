@@ -1,13 +1,20 @@
 //! The program `metro`: it bundles the JavaScript files of the folder in which it runs.
 #![tactic(auto)]
 
+mod build;
+mod bundle;
+mod digest;
 mod ending;
 mod real;
+mod replay;
+mod report;
+mod stage;
 mod still;
 #[cfg(test)]
 mod tests;
 mod words;
 
+use mt_fresh::Options;
 use mt_io::FreeGate;
 use mt_tokens::Text;
 use real::{NoStore, RealFolder, RealSink, RealSource};
@@ -15,6 +22,9 @@ use std::env;
 use std::io::{self, ErrorKind};
 use std::process::ExitCode;
 use still::metro_still;
+
+/// Bundles are for development.
+const OPTIONS: Options = Options { dev: true };
 
 /// The words behind the program's name.
 fn command_words(rt: &HostRuntime) -> io::Result<Vec<Text>> {

@@ -6,6 +6,15 @@ use mt_path::{Path, PathFault};
 use mt_tokens::Text;
 use std::alloc::{AllocError, Global};
 
+/// What is asked for.
+#[derive(Debug, Drop)]
+pub enum Request {
+    /// The bundle of an entry.
+    Bundle(Path),
+    /// The builds of an entry, as the commands of a script change the files.
+    Replay(Path),
+}
+
 /// Whether a word is empty or begins with `-`.
 fn is_odd_word(word: &str) -> bool
     ensures odd { result ≡ is_odd word.now }
@@ -69,15 +78,16 @@ fn read_entry(alloc: Global, words: &[Text]) -> Result<Result<Path, u32>, AllocE
     }
 }
 
-/// The entry of which the words ask a bundle, or the number of the first bad word, from 1.
-pub fn read_words(alloc: Global, words: &[Text]) -> Result<Result<Path, u32>, AllocError>
-    ensures entry { IfOk result (λ entry. entry ≡ words_of words.now) }
+/// What the words ask for, or the number of the first bad word, from 1.
+pub fn read_words(alloc: Global, words: &[Text]) -> Result<Result<Request, u32>, AllocError>
+    ensures request { IfOk result (λ request. request ≡ words_of words.now) }
 {
     let Some((command, rest)) = words.split_first() else {
         return Ok(Err(1));
     };
-    if command.as_str() != "bundle" {
-        return Ok(Err(1));
+    match command.as_str() {
+        "bundle" => Ok(read_entry(alloc, rest)?.map(Request::Bundle)),
+        "replay" => Ok(read_entry(alloc, rest)?.map(Request::Replay)),
+        _ => Ok(Err(1)),
     }
-    read_entry(alloc, rest)
 }

@@ -103,14 +103,3 @@ module _ {X : Type 0} (f : X → List ℕ) where
   -- the pieces of all elements
   pub gathers_whole : (a b : Option (List ℕ)) (k l : List ℕ) (xs : List X) (i : ℕ) → length xs ≤ i → Gathers a b k (flat_map f (take i xs)) l → Gathers a b k (flat_map f xs) l
   gathers_whole a b k l xs i past h = gathers_as a b k l _ _ h (ap (flat_map f) (take_all i xs past))
-
-  -- the same for an element that is named
-  pub gathers_item :
-      (a b c : Option (List ℕ)) (k l m : List ℕ) (xs : List X) (i : ℕ) (x : X) → i < length xs → x ≡ get_or xs i x
-      → Gathers a b k (flat_map f (take i xs)) l → Gathers b c l (f x) m → Gathers a c k (flat_map f (take (i + 1) xs)) m
-  gathers_item a b c k l m xs i x inside is p q = gathers_each a b c k l m xs i x inside p (gathers_as b c l m _ _ q (ap f is))
-
-  pub stops_item :
-      (a b c : Option (List ℕ)) (k l : List ℕ) (xs : List X) (i : ℕ) (x : X) → i < length xs → x ≡ get_or xs i x
-      → Gathers a b k (flat_map f (take i xs)) l → GrowsByPrefix b c (l ++ f x) → GrowsByPrefix a c (k ++ flat_map f xs)
-  stops_item a b c k l xs i x inside is p h = stops_each a b c k l xs i x inside p (subst (λ y. GrowsByPrefix b c (l ++ f y)) is h)

@@ -7,7 +7,6 @@ pub mod Readings
 pub mod Sources
 pub mod Bodies
 pub mod Gathering
-pub mod Numbering
 pub mod Quoting
 pub mod Sizes
 pub mod Firsts

@@ -1,7 +1,6 @@
-//! The fresh graph of a snapshot, and the bundle of its modules.
+//! The fresh graph of a snapshot, and the pieces of its bundle.
 #![tactic(auto)]
 
-mod bundle;
 mod fault_texts;
 mod gather;
 mod graph;
@@ -14,7 +13,6 @@ mod traversal;
 #[cfg(test)]
 mod write_tests;
 
-pub use bundle::write_bundle;
 pub use fault_texts::fault_text;
 pub use graph::{Found, Graph, PathList};
 pub use mt_deps::{Dep, DepFault, DepList, Use, deps};

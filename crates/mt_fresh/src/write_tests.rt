@@ -3,7 +3,7 @@ ghost use Rattle.std.specs.Prelude.{◌≡◌};
 
 use crate::mt_resolve::resolve;
 use crate::{
-    Found, Graph, Options, Output, PathList, Slot, Target, fault_text, module_text, write_bundle, write_head,
+    Found, Graph, Options, Output, PathList, Slot, Target, fault_text, module_text, write_head,
     write_module, write_start,
 };
 use mt_files::{BuildFault, Change, Entry, FileMap};
@@ -142,30 +142,9 @@ fn two_modules(rt: &(impl Abort + AllocGlobal)) -> Graph {
 }
 
 #[test]
-fn entries_have_the_first_numbers(rt: HostRuntime) {
-    let graph = two_modules(&rt);
-    assert!(rt; !graph.is_empty());
-    assert!(rt; graph.len() <= 65536);
-    let entries = [path(&rt, "/z.js")];
-    let options = Options { dev: true };
-    let mut whole = sink(&rt, &[]);
-    assert!(rt; write_bundle(rt.alloc(), &graph, &options, &entries, &mut whole).is_ok());
-    assert!(rt;
-        whole.bytes().ends_with(
-            b"{\nz\n},0,[1],\"z.js\");\n__d(function (global, require, importDefault, importAll, module, exports, dependencyMap) {\na\n},1,[],\"a.js\");\n__r(0);\n"
-        )
-    );
-    for failing in 1..5 {
-        let mut broken = sink(&rt, &[failing]);
-        let written = write_bundle(rt.alloc(), &graph, &options, &entries, &mut broken);
-        assert!(rt; whole.bytes().starts_with(broken.bytes()));
-        assert!(rt; written.is_ok() == (broken.faults() == 0));
-    }
-}
-
-#[test]
 fn modules_are_taken_out_by_path(rt: HostRuntime) {
     let mut graph = two_modules(&rt);
+    assert!(rt; graph.len() == 2 && !graph.is_empty());
     let (first, _) = graph.pop_first().expect(&rt, "a module");
     assert!(rt; first.as_str() == "/a.js");
     let (second, found) = graph.pop_first().expect(&rt, "a module");
