@@ -1,18 +1,18 @@
 -- Each file of a replay, and each path that has a number, is one of the first files or was changed.
-use Rattle.std.proofs.Common.{inl, inr, ◌⊎◌, ◌≡◌, ◌≤◌, ◌+◌, ◌<◌, ℕ, Bool, true, false, cond, List, [], ◌∷◌, ◌++◌, map, length, Option, Some, None, refl, ap, sym, subst, ◌∙◌, append_assoc, append-nil, arith, length-append}
+use Rattle.std.proofs.Common.{inl, inr, ◌⊎◌, ◌≡◌, ◌≤◌, ℕ, Bool, true, false, cond, List, [], ◌∷◌, ◌++◌, map, length, Option, Some, None, refl, ap, sym, subst, ◌∙◌, append_assoc, arith, length-append}
 use Rattle.std.specs.List.{list_any, IsDistinct}
 use Rattle.std.specs.Option.{IfSome, is_some}
 use Rattle.std.specs.Str.{bytes_eq}
 use Rattle.std.specs.Ordering.{nat_cmp, eq_by_cmp}
 use Rattle.std.specs.Cmp.Lexicographic.{slice_cmp, nat_list_cmp_total}
-use Rattle.std.specs.FinMap.{contains_key, contains_key-keys, get, insert, keys, len, len-entries, remove, get-insert, get-remove}
+use Rattle.std.specs.FinMap.{contains_key, contains_key-keys, get, keys, len, len-entries, get-insert, get-remove}
 use Rattle.std.proofs.lemmas.List.{map-append, length-map}
 use Rattle.mt_files.specs.Changes.{path_of, stepped}
 use Rattle.mt_files.specs.Snapshots.{Snapshot}
 use Rattle.mt_files.specs.declared.change.Change.{Change}
 use Rattle.mt_files.specs.declared.change.Change.TheVariants.{Put, Del}
 use Rattle.mt_files.specs.declared.file_map.Entry.{Entry}
-use Rattle.mt_files.proofs.Reaches.{Has, has_head, has_tail, has_key, same_path}
+use Rattle.mt_files.proofs.Reaches.{Has, has_head, has_key}
 use Rattle.mt_fresh.proofs.Explores.{append_left, append_right}
 use Rattle.mt_io.proofs.Children.{tied_is}
 use Rattle.std.proofs.lemmas.Bool.{false≢true}

@@ -1,5 +1,5 @@
 -- What a build gives, and that it keeps the bounds of a stage.
-use Rattle.std.proofs.Common.{inl, inr, ◌≡◌, ◌≤◌, ◌<◌, ◌+◌, ◌==◌, ◌∙◌, ℕ, Bool, true, false, List, ◌++◌, map, length, Option, Some, None, Ok, refl, ap, sym, subst, arith, length-append}
+use Rattle.std.proofs.Common.{inl, inr, ◌≡◌, ◌≤◌, ◌<◌, ◌+◌, ◌==◌, ◌∙◌, ℕ, true, false, List, ◌++◌, map, length, Option, Some, None, Ok, refl, ap, sym, subst, arith, length-append}
 use Rattle.std.specs.List.{IsDistinct}
 use Rattle.std.specs.Option.{IfSome, option_map, option_map_or}
 use Rattle.std.specs.Str.{bytes_eq}

@@ -1,10 +1,8 @@
 -- A graph that a traversal answers has at most so many modules.
-use Rattle.std.proofs.Common.{inl, inr, ◌⊎◌, ◌≡◌, ◌≤◌, ℕ, List, Result, Ok, Err, sym}
-use Rattle.std.specs.Prelude.{IfOk}
+use Rattle.std.proofs.Common.{inl, inr, ◌⊎◌, ◌≡◌, ◌≤◌, ℕ, List, Ok, Err, sym}
 use Rattle.std.specs.FinMap.{len}
 use Rattle.mt_files.specs.Snapshots.{Snapshot}
 use Rattle.mt_fresh.specs.Graphs.{GraphMap, fresh_graph}
-use Rattle.mt_files.specs.declared.build_fault.BuildFault.{BuildFault}
 use Rattle.mt_files.specs.declared.build_fault.BuildFault.TheVariants.{NoMemory}
 use Rattle.mt_fresh.proofs.Sizes.{fresh_size}
 
@@ -16,8 +14,3 @@ answered_size files start graph (inr h) = fresh_size files start graph (sym h)
 pub answered_graph : (files : Snapshot) (start : List (List ℕ)) (graph : GraphMap) → (Ok graph ≡ Err NoMemory) ⊎ (Ok graph ≡ fresh_graph files start) → fresh_graph files start ≡ Ok graph
 answered_graph files start graph (inl h) = absurd (cc)
 answered_graph files start graph (inr h) = sym h
-
--- what follows from what holds of an answer holds of it too
-pub if_ok : {T E : Type 0} {P Q : T → Type 0} (r : Result T E) → ((t : T) → P t → Q t) → IfOk r P → IfOk r Q
-if_ok (Ok t) f h = f t h
-if_ok (Err e) f h = tt

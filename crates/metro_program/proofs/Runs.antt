@@ -71,13 +71,13 @@ module _ (tree : Files) (entries : List (List ℕ)) (start : Start) where
     written = run.written ++ step.bytes;
     grown = grows_then start.out out new run.written step.bytes run.grown grows;
     left = λ more.
-      ap (left_plan tree entries start.standing 0) (append_assoc run.read (take k now.left) more)
-      ∙ run.left (take k now.left ++ more)
-      ∙ ap (with_bytes run.written) (left_any tree entries s reader.count (reader.held ++ (take k now.left ++ more)) command (reader'.held ++ more) (found more))
-      ∙ ap (λ m. with_bytes run.written (left_behind tree entries (reader.count + 1) (reader'.held ++ more) m)) leads
-      ∙ with_two run.written step.bytes (left_plan tree entries step.standing (reader.count + 1) (reader'.held ++ more))
-      ∙ ap (λ z. with_bytes (run.written ++ step.bytes) (left_plan tree entries z (reader.count + 1) (reader'.held ++ more))) (sym stands)
-      ∙ ap (λ n. with_bytes (run.written ++ step.bytes) (left_plan tree entries s' n (reader'.held ++ more))) (sym count);
+        ap (left_plan tree entries start.standing 0) (append_assoc run.read (take k now.left) more)
+        ∙ run.left (take k now.left ++ more)
+        ∙ ap (with_bytes run.written) (left_any tree entries s reader.count (reader.held ++ (take k now.left ++ more)) command (reader'.held ++ more) (found more))
+        ∙ ap (λ m. with_bytes run.written (left_behind tree entries (reader.count + 1) (reader'.held ++ more) m)) leads
+        ∙ with_two run.written step.bytes (left_plan tree entries step.standing (reader.count + 1) (reader'.held ++ more))
+        ∙ ap (λ z. with_bytes (run.written ++ step.bytes) (left_plan tree entries z (reader.count + 1) (reader'.held ++ more))) (sym stands)
+        ∙ ap (λ n. with_bytes (run.written ++ step.bytes) (left_plan tree entries s' n (reader'.held ++ more))) (sym count);
   }
 
   -- ---- how a run ends
@@ -127,7 +127,7 @@ pub run_lines :
 run_lines tree entries start s reader now told out k fault run on cut read gave =
     let same : read ≡ run.read ++ take k now.left = gave_once start.reading told _ read (gave_on start.reading now told run.read k run.gave on) gave in
     let plan : left_plan tree entries start.standing 0 read ≡ with_bytes run.written (without_bytes (script_ending fault)) =
-      ap (left_plan tree entries start.standing 0) same ∙ run.left (take k now.left) ∙ ap (with_bytes run.written) (left_stop tree entries s reader.count (reader.held ++ take k now.left) fault cut) in
+    ap (left_plan tree entries start.standing 0) same ∙ run.left (take k now.left) ∙ ap (with_bytes run.written) (left_stop tree entries s reader.count (reader.held ++ take k now.left) fault cut) in
     subst (Grows start.out out) (sym (append-nil run.written) ∙ sym (ap (λ p. p.bytes) plan)) run.grown
 
 -- ---- a turn

@@ -110,8 +110,8 @@ new_cases xs ys q h = elim (or_cases (list_any (bytes_eq q) xs) (list_any (bytes
 pub numbered_files : (files : Snapshot) (numbering entries : List (List ℕ)) (graph : GraphMap) → fresh_graph files entries ≡ Ok graph → (path : List ℕ) → Has (extended numbering entries (keys graph)) path → Has numbering path ⊎ (contains_key files path ≡ true)
 numbered_files files numbering entries graph h path has = elim (new_cases (with_new numbering entries) (keys graph) path has) [
   | inl before ↦ elim (new_cases numbering entries path before) [
-      | inl old ↦ inl old
-      | inr entry ↦ inr (entry_files files entries graph h path entry)
-    ]
+    | inl old ↦ inl old
+    | inr entry ↦ inr (entry_files files entries graph h path entry)
+  ]
   | inr member ↦ inr (graph_files files entries graph h path (contains_key-keys graph path ∙ has_key path (keys graph) ∙ member))
 ]

@@ -13,10 +13,10 @@ ghost use Rattle.metro_program.specs.Reports.{revision_line, same_line};
 ghost use Rattle.metro_program.specs.Replay.{built, ended, graph_build, held_at, numbered_build, seen_in};
 ghost use Rattle.metro_program.specs.Stages.{IsBounded, IsLatest, seen_of, standing};
 
+use crate::OPTIONS;
 use crate::ending::Ending;
 use crate::report::{refused_line, revision_line, same_line};
 use crate::stage::Stage;
-use crate::OPTIONS;
 use mt_files::BuildFault;
 use mt_fresh::{Graph, traverse};
 use mt_io::{Sink, Trouble, send_all};
@@ -63,7 +63,15 @@ fn next_build(
     let changes = stage.journal.len() as u32;
     let members = graph.paths(alloc)?;
     let numbering = stage.numbering.extend(alloc, entries, members.as_slice())?;
-    let revision = Revision::of_graph(alloc, before, OPTIONS.dev, changes, &numbering, entries, graph)?;
+    let revision = Revision::of_graph(
+        alloc,
+        before,
+        OPTIONS.dev,
+        changes,
+        &numbering,
+        entries,
+        graph,
+    )?;
     let line = revision_line(alloc, before, &revision)?;
     Ok(Built {
         numbering,

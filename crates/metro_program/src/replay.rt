@@ -149,15 +149,7 @@ fn run_script<F: Folder, I: Source, O: Sink>(
         return Ending::NoMemory;
     };
     for _turn in 0..=MOST_COMMANDS {
-        if let Err(ending) = turn(
-            alloc,
-            entries,
-            &mut stage,
-            &mut reader,
-            folder,
-            script,
-            out,
-        ) {
+        if let Err(ending) = turn(alloc, entries, &mut stage, &mut reader, folder, script, out) {
             return ending;
         }
     }

@@ -185,7 +185,11 @@ pub(crate) fn put_next_slots<S: Sink>(
 
 /// Gathers slots, joined by `,`.
 #[tactic(auto, using(crate::proofs::Gathering::gathers_none))]
-pub(crate) fn put_slots<S: Sink>(kept: &mut Kept, slots: &[Slot], sink: &mut S) -> Result<(), Failed>
+pub(crate) fn put_slots<S: Sink>(
+    kept: &mut Kept,
+    slots: &[Slot],
+    sink: &mut S,
+) -> Result<(), Failed>
     ensures all { OnOk result (Gathers (S.told sink.old) (S.told sink.new) kept.old.items (join_by slot_text (codes ",") slots.now) kept.new.items) }
     ensures part { OnErr result (GrowsByPrefix (S.told sink.old) (S.told sink.new) (kept.old.items ++ (join_by slot_text (codes ",") slots.now))) }
     ensures cause { HasOneCause (S.count sink.old) (S.count sink.new) result }

@@ -78,7 +78,15 @@ fn a_module_has_its_number_its_slots_and_its_path(rt: HostRuntime) {
             == b"__d(function (global, require, importDefault, importAll, module, exports, dependencyMap) {\n\nx\n},0,[]);\n".as_slice()
     );
     let quoted = path(&rt, "/a\"b\\c.js");
-    let dev = module_text(rt.alloc(), 7, &quoted, b"", &[Slot::Module(1), Slot::Empty, Slot::Module(20)], true).expect(&rt, "memory");
+    let dev = module_text(
+        rt.alloc(),
+        7,
+        &quoted,
+        b"",
+        &[Slot::Module(1), Slot::Empty, Slot::Module(20)],
+        true,
+    )
+    .expect(&rt, "memory");
     assert!(rt;
         dev.as_slice()
             == b"__d(function (global, require, importDefault, importAll, module, exports, dependencyMap) {\n\n},7,[1,null,20],\"a\\\"b\\\\c.js\");\n".as_slice()
@@ -105,7 +113,9 @@ fn a_bundle_says_whether_it_is_for_development(rt: HostRuntime) {
 #[test]
 fn a_module_and_its_start_are_written(rt: HostRuntime) {
     let index = path(&rt, "/index.js");
-    let text = module_text(rt.alloc(), 3, &index, b"\ny", &[Slot::Module(4)], true).expect(&rt, "memory");
+    let text = module_text(rt.alloc(), 3, &index, b"\ny", &[Slot::Module(4)], true).expect(
+        &rt, "memory",
+    );
     let mut sink = sink(&rt, &[]);
     assert!(rt; write_module(3, &index, b"\ny", &[Slot::Module(4)], true, &mut sink).is_ok());
     assert!(rt; sink.bytes() == text.as_slice());
