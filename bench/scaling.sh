@@ -1,9 +1,11 @@
 #!/usr/bin/env bash
 # Measures metro on made folders: 1,000, 10,000 and 50,000 small modules that require each other, 64 MB of source in
-# 100 files, and 5,000 modules of 1 KiB beside `cat` of the same files. Run by hand, after `rt ci` has left the program.
+# 100 files, and 5,000 modules of 1 KiB beside `cat` of the same files; then replays over 1,000 small modules, of 2,000
+# edits that are built one by one and of 65,536 changes. Run by hand, after `rt ci` has left the program, or with
+# METRO_PROGRAM naming another one.
 set -eu
 top="$(cd "$(dirname "$0")/.." && pwd)"
-program="$top/crates/metro_program/out/metro_program"
+program="${METRO_PROGRAM:-$top/crates/metro_program/out/metro_program}"
 [ -x "$program" ] || { echo "no program at $program: run rt ci first" >&2; exit 1; }
 work="$(mktemp -d)"
 trap 'rm -rf "$work"' EXIT
@@ -48,19 +50,32 @@ for i in range(count):
 PY
 }
 
-# timed FOLDER: seconds and kilobytes of a run.
+# timed FOLDER [COMMAND [SCRIPT [RUNS]]]: seconds of the fastest run, and the kilobytes of the largest. The peak is asked
+# for as the program runs, since what the system tells of a process that ended counts what it was started from, too.
 timed() {
-  (cd "$1" && python3 - "$program" <<'PY'
-import os, resource, subprocess, sys, time
+  (cd "$1" && python3 - "$program" "${2:-bundle}" "${3:-/dev/null}" "${4:-3}" <<'PY'
+import subprocess, sys, time
+program, command, script, runs = sys.argv[1:]
 best, peak = None, 0
-for _ in range(3):
-    start = time.time()
-    done = subprocess.run([sys.argv[1], "bundle", "index.js"], stdout=subprocess.DEVNULL)
+for _ in range(int(runs)):
+    with open(script, "rb") as source:
+        start = time.time()
+        run = subprocess.Popen([program, command, "index.js"], stdin=source, stdout=subprocess.DEVNULL)
+    last = 0
+    while run.poll() is None:
+        try:
+            with open("/proc/%d/status" % run.pid) as status:
+                for line in status:
+                    if line.startswith("VmHWM:"):
+                        last = int(line.split()[1])
+        except OSError:
+            pass
+        time.sleep(0.0005)
     taken = time.time() - start
-    if done.returncode != 0:
-        sys.exit("status %d" % done.returncode)
+    if run.returncode != 0:
+        sys.exit("status %d" % run.returncode)
     best = taken if best is None else min(best, taken)
-peak = resource.getrusage(resource.RUSAGE_CHILDREN).ru_maxrss
+    peak = max(peak, last)
 print("%.3f %d" % (best, peak))
 PY
   )
@@ -97,3 +112,40 @@ PY
 )"
 ratio="$(python3 -c "print('%.2f' % ($seconds / $cat_seconds))")"
 echo "5000 modules of 1 KiB: $seconds s, cat of the same files $cat_seconds s, ratio $ratio (wanted: 5), peak $peak KB"
+
+# replayed NAME SCRIPT BUILDS: a replay over the 1,000 small modules, beside BUILDS bundles and a replay of `end` alone.
+replayed() {
+  local seconds peak ratio allowed
+  read -r seconds peak <<<"$(timed "$work/small1000" replay "$2" 1)"
+  ratio="$(python3 -c "print('%.2f' % ($seconds / ($3 * $bundle_seconds)))")"
+  allowed=$((2 * end_peak + $(wc -c <"$2") / 1024))
+  echo "$1: $seconds s, $ratio times $3 bundles (wanted: 1), peak $peak KB (wanted at most $allowed)"
+}
+
+read -r bundle_seconds peak <<<"$(timed "$work/small1000")"
+echo end >"$work/end"
+read -r end_seconds end_peak <<<"$(timed "$work/small1000" replay "$work/end")"
+echo "a replay of end alone over 1000 modules: $end_seconds s, a bundle $bundle_seconds s, peak $end_peak KB"
+
+# edits COUNT MODULES BUILD: a script of so many puts, of the modules in turn, with what BUILD says behind each.
+edits() {
+  python3 - "$@" <<'PY'
+import sys
+count, modules, build = int(sys.argv[1]), int(sys.argv[2]), sys.argv[3]
+def place(i):
+    return "d%d/m%d.js" % (i // 100, i)
+for edit in range(count):
+    i = edit % modules
+    text = "".join('require("../%s");\n' % place(j) for j in ((i + 1) % 1000, (i * 7919 + 13) % 1000))
+    text += "exports.v = %d;\n" % (edit + 1000)
+    print("put /%s %d\n%s" % (place(i), len(text), text))
+    if build:
+        print(build)
+print("build\nend")
+PY
+}
+
+edits 2000 1 build >"$work/edits"
+replayed "2000 edits of one module with a build each" "$work/edits" 2001
+edits 65536 1000 "" >"$work/changes"
+replayed "65536 changes of 1000 modules with one build" "$work/changes" 2

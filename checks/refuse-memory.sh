@@ -1,88 +1,111 @@
 #!/usr/bin/env bash
-# Refuses memory at the N-th allocation of a small bundle, for each N: the run ends with 5 and a front part of the bundle,
-# or as it does with ample memory, and a run after all of them gives the bundle. By hand, since each N is one `rt try`.
+# Refuses memory at the N-th allocation of a small bundle and of a small replay, for each N: the run ends with 5 and a front
+# part of its output, or as it does with ample memory, and a run after all of them is as with ample memory. By hand, after
+# `rt ci` has left the program: it wants a C compiler and glibc, since a small library stands before the program's malloc.
 #
-#   checks/refuse-memory.sh [FIRST [LAST [STEP [JOBS]]]]
+#   checks/refuse-memory.sh [FIRST [LAST [STEP]]]
 #
-# Without LAST it ends where STEP by STEP twelve runs together met no refused allocation.
+# Without LAST it ends at the first N that no allocation has. METRO_PROGRAM names another program.
 set -u
 top="$(cd "$(dirname "$0")/.." && pwd)" || exit 1
 first="${1:-1}"
-last="${2:-100000}"
+last="${2:-1000000}"
 step="${3:-1}"
-jobs="${4:-4}"
-work="$(mktemp -d)" || exit 1
+program="${METRO_PROGRAM:-$top/crates/metro_program/out/metro_program}"
+[ -x "$program" ] || { echo "no program at $program: run rt ci first" >&2; exit 1; }
+work="$(mktemp -d)"
 trap 'rm -rf "$work"' EXIT
 
-# A copy for each job: the program runs in its crate's folder, whose files it reads.
-for ((job = 0; job < jobs; job++)); do
-  mkdir -p "$work/$job/crates"
-  (cd "$top" && cp crates.txt HANDLES "$work/$job/" &&
-    find crates -name out -prune -o -type f -print0 | xargs -0 cp --parents -t "$work/$job/") || exit 1
-  printf 'require("./b.js");' >"$work/$job/crates/metro_program/data/index.js"
-  printf '1;' >"$work/$job/crates/metro_program/data/b.js"
-done
+# The library counts the calls that ask for memory, and answers the one of the number REFUSE_AT with nothing; then it makes
+# the file that REFUSE_MARK names.
+cat >"$work/refuse.c" <<'C'
+#include <errno.h>
+#include <fcntl.h>
+#include <stddef.h>
+#include <stdlib.h>
+#include <unistd.h>
 
-# try_at JOB NAME FLAG..: one run; its bundle, its log and its status go to files under NAME.
-try_at() {
-  local folder="$work/$1/crates/metro_program" name="$2"
-  shift 2
-  (cd "$folder" && rt try "$@" -- bundle data/index.js) >"$work/$name.out" 2>"$work/$name.log" </dev/null
-  sed -n 's/^checked: ended status=//p' "$work/$name.log" >"$work/$name.status"
+extern void *__libc_malloc(size_t);
+extern void *__libc_calloc(size_t, size_t);
+extern void *__libc_realloc(void *, size_t);
+
+static long calls = 0, refused_at = -1;
+
+static int is_refused(void) {
+  if (refused_at < 0) {
+    const char *text = getenv("REFUSE_AT");
+    refused_at = text ? atol(text) : 0;
+  }
+  if (__atomic_add_fetch(&calls, 1, __ATOMIC_SEQ_CST) != refused_at) return 0;
+  int mark = open(getenv("REFUSE_MARK"), O_CREAT | O_WRONLY | O_CLOEXEC, 0600);
+  if (mark >= 0) close(mark);
+  errno = ENOMEM;
+  return 1;
 }
 
-# judge N: whether the run under this number is as it may be.
+void *malloc(size_t size) { return is_refused() ? NULL : __libc_malloc(size); }
+void *calloc(size_t count, size_t size) { return is_refused() ? NULL : __libc_calloc(count, size); }
+void *realloc(void *old, size_t size) { return is_refused() ? NULL : __libc_realloc(old, size); }
+C
+cc -O1 -shared -fPIC -o "$work/refuse.so" "$work/refuse.c" || exit 1
+
+mkdir "$work/folder"
+printf 'require("./b.js");' >"$work/folder/index.js"
+printf '1;' >"$work/folder/b.js"
+printf 'put /b.js 1\n(\nbuild\nrescan\nbuild\nbuild\ndel /b.js\nput /index.js 2\n2;\nbuild\nend\n' >"$work/script"
+
+# run COMMAND NAME N: one run with the N-th allocation refused, or none at 0; what it leaves goes to files under NAME.
+run() {
+  (cd "$work/folder" && exec timeout 60 env LD_PRELOAD="$work/refuse.so" REFUSE_AT="$3" REFUSE_MARK="$work/$2.mark" \
+    "$program" "$1" index.js) >"$work/$2.out" 2>"$work/$2.log" <"$work/script"
+  echo "$?" >"$work/$2.status"
+}
+
+# judge NAME AMPLE: whether a run is as it may be, beside the one with ample memory.
 judge() {
-  local size
+  local size status
   size="$(wc -c <"$work/$1.out")"
-  case "$(cat "$work/$1.status")" in
-    0) cmp -s "$work/$1.out" "$work/ample.out" ;;
-    5) cmp -s -n "$size" "$work/$1.out" "$work/ample.out" && [ "$size" -le "$whole" ] &&
+  status="$(cat "$work/$1.status")"
+  case "$status" in
+    5) [ "$size" -le "$(wc -c <"$work/$2.out")" ] && cmp -s -n "$size" "$work/$1.out" "$work/$2.out" &&
       grep -qx 'metro: out of memory' "$work/$1.log" ;;
-    *) false ;;
+    *) [ "$status" = "$(cat "$work/$2.status")" ] && cmp -s "$work/$1.out" "$work/$2.out" &&
+      cmp -s "$work/$1.log" "$work/$2.log" ;;
   esac
 }
 
-try_at 0 ample
-whole="$(wc -c <"$work/ample.out")"
-if [ "$(cat "$work/ample.status")" != 0 ]; then
-  cat "$work/ample.log"
-  echo "the run with ample memory failed"
-  exit 1
-fi
-
 failed=0
-refused=0
-passed=0
-calm=0
-n="$first"
-while [ "$n" -le "$last" ] && [ "$calm" -lt 12 ]; do
-  numbers=()
-  for ((job = 0; job < jobs && n <= last; job++, n += step)); do
-    numbers+=("$n")
-    try_at "$job" "$n" --fail-alloc "$n" &
-  done
-  wait
-  for number in "${numbers[@]}"; do
-    if ! judge "$number"; then
+for command in bundle replay; do
+  refused=0
+  passed=0
+  n="$first"
+  run "$command" ample 0
+  if [ "$(cat "$work/ample.status")" != 0 ]; then
+    cat "$work/ample.log"
+    echo "the $command with ample memory failed"
+    exit 1
+  fi
+  while [ "$n" -le "$last" ]; do
+    rm -f "$work/one.mark"
+    run "$command" one "$n"
+    [ -e "$work/one.mark" ] || break
+    if ! judge one ample; then
       failed=$((failed + 1))
-      echo "failed: allocation $number (status $(cat "$work/$number.status"))"
-      cat "$work/$number.log"
-    elif [ "$(cat "$work/$number.status")" = 5 ]; then
+      echo "failed: $command, allocation $n (status $(cat "$work/one.status"))"
+      head -c 400 "$work/one.log"
+    elif [ "$(cat "$work/one.status")" = 5 ]; then
       refused=$((refused + 1))
-      calm=0
     else
       passed=$((passed + 1))
-      calm=$((calm + 1))
     fi
-    rm -f "$work/$number".*
+    n=$((n + step))
   done
+  run "$command" again 0
+  if ! judge again ample; then
+    failed=$((failed + 1))
+    echo "failed: the $command after all of them"
+  fi
+  echo "memory: $command, allocations $first to $((n - step)) by $step: $refused runs ended with 5, $passed as with ample memory"
 done
-
-try_at 0 again
-if ! cmp -s "$work/again.out" "$work/ample.out" || [ "$(cat "$work/again.status")" != 0 ]; then
-  failed=$((failed + 1))
-  echo "failed: the run after all of them"
-fi
-echo "memory: allocations $first to $((n - step)) by $step: $refused runs ended with 5, $passed as with ample memory, $failed failed"
+echo "memory: $failed failed"
 [ "$failed" -eq 0 ]

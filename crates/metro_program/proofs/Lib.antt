@@ -9,4 +9,5 @@ pub mod Moves
 pub mod Replays
 pub mod Runs
 pub mod Openings
+pub mod Asked
 pub mod Builds

@@ -1,5 +1,5 @@
 -- A run keeps to its plan where neither the folder nor the output failed, and each answer has its reason.
-use Rattle.std.proofs.Common.{inl, inr, ◌⊎◌, ◌≡◌, ◌<◌, ap, ℕ, Bool, true, false, ◌+◌, List, [], ◌∷◌, length, Option, Result, Ok, Err, refl, sym, ◌∙◌, subst, arith, nat_lt, if◌then◌else◌}
+use Rattle.std.proofs.Common.{inl, inr, ◌⊎◌, ◌≡◌, ◌<◌, ap, ℕ, Bool, true, false, ◌+◌, List, [], ◌∷◌, length, Option, Some, None, Result, Ok, Err, refl, sym, ◌∙◌, subst, arith, nat_lt, if◌then◌else◌}
 use Rattle.std.specs.Option.{unwrap_or}
 use Rattle.std.specs.FinMap.{get, insert}
 use Rattle.std.proofs.lemmas.Bool.{false≢true}
@@ -135,7 +135,7 @@ files_reason words tree entry (Err fault) named met =
 words_reason : (words : List (List ℕ)) (tree : Files) (w : Result Request ℕ) → words_of words ≡ w → reads_script w ≡ false → HasReason (status_of (words_plan w tree []).ending) words tree
 words_reason words tree (Ok (Bundle entry)) named unread = files_reason words tree entry (crawled tree) named refl
 words_reason words tree (Ok (Replay entry)) named unread = absurd (false≢true (sym unread))
-words_reason words tree (Err at) named unread = record { built = λ e. absurd e; refused = λ e. absurd e; limited = λ e. absurd e }
+words_reason words tree (Err at) named unread = record { built = λ (e : 2 ≡ 0). absurd (omega (arith, e)); refused = λ (e : 2 ≡ 1). absurd (omega (arith, e)); limited = λ (e : 2 ≡ 6). absurd (omega (arith, e)) }
 
 -- the statuses of the plan have their reasons, where no script is read
 pub still_reason : (words : List (List ℕ)) (tree : Files) → reads_script (words_of words) ≡ false → HasReason (status_of (still words tree []).ending) words tree

@@ -15,7 +15,7 @@ mod tests;
 mod words;
 
 use mt_fresh::Options;
-use mt_io::FreeGate;
+use mt_io::{FreeGate, send_all};
 use mt_tokens::Text;
 use real::{NoStore, RealFolder, RealSink, RealSource};
 use std::env;
@@ -39,10 +39,12 @@ fn command_words(rt: &HostRuntime) -> io::Result<Vec<Text>> {
 /// nothing is run.
 fn main(rt: HostRuntime) -> ExitCode {
     let alloc = rt.alloc();
+    let mut log = RealSink::new(rt.stderr());
     let words = match command_words(&rt) {
         Ok(words) => words,
         Err(error) => {
             if error.kind() == ErrorKind::OutOfMemory {
+                let _ = send_all(&mut log, b"metro: out of memory\n");
                 return ExitCode::from(5);
             }
             Vec::new(alloc)
@@ -51,7 +53,6 @@ fn main(rt: HostRuntime) -> ExitCode {
     let mut folder = RealFolder::new(&rt, ".");
     let mut script = RealSource::new(rt.stdin());
     let mut out = RealSink::new(rt.stdout());
-    let mut log = RealSink::new(rt.stderr());
     let status = metro_still(
         &rt,
         alloc,

@@ -1,5 +1,5 @@
 //! The commands that run over objects that are handed in.
-ghost use Rattle.std.specs.Prelude.{◌≡◌, ◌≤◌, ◌⊎◌, ℕ, List, true, false, IfOk, IsErr, Some};
+ghost use Rattle.std.specs.Prelude.{◌≡◌, ◌≤◌, ◌⊎◌, ℕ, List, [], true, false, IfOk, IsErr, Some};
 ghost use Rattle.mt_io.specs.Causes.{Rose};
 ghost use Rattle.mt_io.specs.Told.{Grows, GrowsByPrefix, Reading};
 ghost use Rattle.mt_io.specs.Files.{Files};

@@ -1,8 +1,14 @@
 //! Whole runs over objects in memory.
 mod bundles;
 mod faults;
+mod kept;
 mod limits;
 mod refusals;
+mod replay;
+mod replay_faults;
+mod replay_limits;
+mod scripts;
+mod written;
 
 use crate::real::NoStore;
 use crate::still::metro_still;
@@ -38,12 +44,14 @@ global.__exportAll=function(t,e){for(var k in e)if(k!==\"default\")t[k]=e[k];};
 const HEAD: &str =
     "__d(function (global, require, importDefault, importAll, module, exports, dependencyMap) {\n";
 
-/// What a run is given: files by their paths, words, and the numbers of the calls that fail.
+/// What a run is given: files by their paths, words, the pieces of its script, and the numbers of the calls that fail.
 #[derive(Clone, Copy)]
 struct Given<'a> {
     files: &'a [(&'a str, &'a str)],
     words: &'a [&'a str],
+    script: &'a [&'a str],
     folder_failing: &'a [u64],
+    script_failing: &'a [u64],
     out_failing: &'a [u64],
     log_failing: &'a [u64],
     room: usize,
@@ -54,10 +62,20 @@ fn nothing_fails<'a>(files: &'a [(&'a str, &'a str)], words: &'a [&'a str]) -> G
     Given {
         files,
         words,
+        script: &[],
         folder_failing: &[],
+        script_failing: &[],
         out_failing: &[],
         log_failing: &[],
         room: 65536,
+    }
+}
+
+/// A replay of `/index.js` over these files by this script, in which nothing fails.
+fn replayed<'a>(files: &'a [(&'a str, &'a str)], script: &'a [&'a str]) -> Given<'a> {
+    Given {
+        script,
+        ..nothing_fails(files, &["replay", "index.js"])
     }
 }
 
@@ -80,6 +98,15 @@ fn texts(alloc: Global, words: &[&str]) -> Result<Vec<Text>, AllocError> {
     Ok(texts)
 }
 
+/// The pieces of a script, as they are.
+fn whole_pieces(alloc: Global, script: &[&str]) -> Result<Vec<Bytes>, AllocError> {
+    let mut pieces = Vec::new(alloc);
+    for piece in script {
+        pieces.push(Bytes::from_slice(alloc, piece.as_bytes())?)?;
+    }
+    Ok(pieces)
+}
+
 /// What a run left: its status, the output and the log.
 #[derive(Drop)]
 struct Outcome {
@@ -99,10 +126,20 @@ fn run_over<R: Threads + Sync>(
     tree: BTreeMap<Path, Bytes>,
     given: Given<'_>,
 ) -> Result<Outcome, AllocError> {
+    run_script(rt, alloc, tree, whole_pieces(alloc, given.script)?, given)
+}
+
+/// A run as it is given, but over the files of this tree and with these pieces of a script.
+fn run_script<R: Threads + Sync>(
+    rt: &R,
+    alloc: Global,
+    tree: BTreeMap<Path, Bytes>,
+    pieces: Vec<Bytes>,
+    given: Given<'_>,
+) -> Result<Outcome, AllocError> {
     let words = texts(alloc, given.words)?;
-    let failing = Vec::from_slice(alloc, given.folder_failing)?;
-    let mut folder = MapFolder::new(tree, failing);
-    let mut script = ListSource::new(Vec::new(alloc), Vec::new(alloc));
+    let mut folder = MapFolder::new(tree, Vec::from_slice(alloc, given.folder_failing)?);
+    let mut script = ListSource::new(pieces, Vec::from_slice(alloc, given.script_failing)?);
     let mut out = VecSink::new(
         alloc,
         given.room,

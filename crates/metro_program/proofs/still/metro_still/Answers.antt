@@ -1,7 +1,7 @@
 use Rattle.std.proofs.Common.{[]}
 use Rattle.metro_program.specs.Words.{words_of}
 use Rattle.metro_program.specs.Still.{still}
-use Rattle.metro_program.proofs.Tells.{refused_status, told_line}
+use Rattle.metro_program.proofs.Tells.{answer_of, read_of, refused_status, told_line}
 use Rattle.metro_program.proofs.Outcomes.{answered_by, bundle_unread, done_by, keeps_to_plan, limited_by, reason_by, refused_by, script_stood, script_unread, unread_script}
 use Rattle.metro_program.proofs.still.metro_still.Goals as goal
 
@@ -36,3 +36,12 @@ pub returns-clause-reason : goal.returns-clause-reason
 returns-clause-reason g c = λ tree told unread.
     let gives = unread_script (words_of c.args.words.now) (g.I.Source.told c.args.script.now) [] unread in
     reason_by c.tell.result c.args.words.now tree (answered_by c.tell.result (still c.args.words.now tree []).ending c.run-ending.result (c.run-ending.ensures.ending tree [] told gives) c.tell.ensures.status) unread
+
+pub returns-clause-status : goal.returns-clause-status
+returns-clause-status g c = λ tree bytes told gives. answered_by c.tell.result (still c.args.words.now tree bytes).ending c.run-ending.result (c.run-ending.ensures.ending tree bytes told gives) c.tell.ensures.status
+
+pub returns-clause-bytes : goal.returns-clause-bytes
+returns-clause-bytes g c = λ tree bytes told gives answered. c.run-ending.ensures.bytes tree bytes told gives (answer_of c.tell.result c.run-ending.result c.tell.ensures.status answered)
+
+pub returns-clause-lines : goal.returns-clause-lines
+returns-clause-lines g c = λ tree before read told gives gave three stood. c.run-ending.ensures.lines tree before read told gives gave (read_of c.tell.result c.run-ending.result c.tell.ensures.status three) stood
