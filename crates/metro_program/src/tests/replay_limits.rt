@@ -113,8 +113,7 @@ fn a_put_of_one_byte_more_meets_the_limit_at_its_line(rt: HostRuntime) {
 }
 
 #[test]
-fn so_many_changes_pass_and_one_more_meets_the_limit(rt: HostRuntime) {
-    let most = repeated(rt.alloc(), "", "del /x.js\n", 65_536).expect(&rt, "memory");
+fn so_many_changes_pass(rt: HostRuntime) {
     let lines = [
         FIRST,
         ALONE.tail,
@@ -122,10 +121,22 @@ fn so_many_changes_pass_and_one_more_meets_the_limit(rt: HostRuntime) {
         ALONE.tail,
         "same 2\n",
     ];
+    let most = repeated(rt.alloc(), "", "del /x.js\n", 65_536).expect(&rt, "memory");
     let script = [most.as_str(), "build\nrescan\nbuild\nend\n"];
     let ran = run(&rt, rt.alloc(), replayed(&LONE, &script)).expect(&rt, "memory");
     assert!(rt; left(&ran, 0, &lines, ""));
+}
 
+#[test]
+fn one_change_more_meets_the_limit(rt: HostRuntime) {
+    let lines = [
+        FIRST,
+        ALONE.tail,
+        "revision 2 changes 65536 modules 1 added 0 modified 0 deleted 0",
+        ALONE.tail,
+        "same 2\n",
+    ];
+    let most = repeated(rt.alloc(), "", "del /x.js\n", 65_536).expect(&rt, "memory");
     let script = [most.as_str(), "build\nbuild\ndel /x.js\nno command\n"];
     let ran = run(&rt, rt.alloc(), replayed(&LONE, &script)).expect(&rt, "memory");
     assert!(rt; left(&ran, 6, &lines, "metro: limit changes 65536\n"));

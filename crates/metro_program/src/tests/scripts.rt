@@ -2,6 +2,8 @@
 use super::written::{ALONE, TWO};
 use super::{Given, left, nothing_fails, replayed, run, run_script, tree};
 use mt_tokens::Bytes;
+use std::alloc::{AllocError, Global};
+use std::thread::Threads;
 
 /// The line of a first build of a lone entry, without what tells of its bundle.
 const FIRST: &str = "revision 1 changes 0 modules 1 added 1 modified 0 deleted 0";
@@ -89,68 +91,58 @@ fn a_line_that_is_not_utf_8_is_bad(rt: HostRuntime) {
     assert!(rt; left(&ran, 7, &[FIRST, ALONE.tail], "metro: script command 1\n"));
 }
 
+/// Whether a script ends a run with status 7, these lines and this on the log.
+fn ends_so<R: Threads + Sync>(
+    rt: &R,
+    alloc: Global,
+    script: &str,
+    lines: &[&str],
+    log: &str,
+) -> Result<bool, AllocError> {
+    let pieces = [script];
+    let ran = run(rt, alloc, replayed(&LONE, &pieces))?;
+    Ok(left(&ran, 7, lines, log))
+}
+
 #[test]
-fn a_script_that_ends_before_its_end_is_cut(rt: HostRuntime) {
-    for (script, lines, log) in [
-        (
-            "",
-            [FIRST, ALONE.tail, ""],
-            "metro: script cut in command 1\n",
-        ),
-        (
-            "en",
-            [FIRST, ALONE.tail, ""],
-            "metro: script cut in command 1\n",
-        ),
-        (
-            "end",
-            [FIRST, ALONE.tail, ""],
-            "metro: script cut in command 1\n",
-        ),
-        (
-            "no command",
-            [FIRST, ALONE.tail, ""],
-            "metro: script cut in command 1\n",
-        ),
-        (
-            "put /a.js 5\nabc",
-            [FIRST, ALONE.tail, ""],
-            "metro: script cut in command 1\n",
-        ),
-        (
-            "put /a.js 3\nabc",
-            [FIRST, ALONE.tail, ""],
-            "metro: script cut in command 1\n",
-        ),
-        (
-            "put /a.js 0\n",
-            [FIRST, ALONE.tail, ""],
-            "metro: script cut in command 1\n",
-        ),
-        (
-            "build\n",
-            [FIRST, ALONE.tail, "same 1\n"],
-            "metro: script cut in command 2\n",
-        ),
-        (
-            "build\nbuild",
-            [FIRST, ALONE.tail, "same 1\n"],
-            "metro: script cut in command 2\n",
-        ),
-        (
-            "build\nput /a.js 3\nabc\n",
-            [FIRST, ALONE.tail, "same 1\n"],
-            "metro: script cut in command 3\n",
-        ),
-        (
-            "build\nput /a.js 5\nabc",
-            [FIRST, ALONE.tail, "same 1\n"],
-            "metro: script cut in command 2\n",
-        ),
+fn a_script_that_ends_before_its_first_command_does_is_cut(rt: HostRuntime) {
+    let log = "metro: script cut in command 1\n";
+    for script in [
+        "",
+        "en",
+        "end",
+        "no command",
+        "put /a.js 5\nabc",
+        "put /a.js 3\nabc",
+        "put /a.js 0\n",
     ] {
-        let ran = run(&rt, rt.alloc(), replayed(&LONE, &[script])).expect(&rt, "memory");
-        assert!(rt; left(&ran, 7, &lines, log), "{script}");
+        let cut = ends_so(&rt, rt.alloc(), script, &[FIRST, ALONE.tail], log);
+        assert!(rt; cut.expect(&rt, "memory"), "{script}");
     }
+}
+
+#[test]
+fn a_script_that_ends_before_its_end_is_cut_behind_its_lines(rt: HostRuntime) {
+    let lines = [FIRST, ALONE.tail, "same 1\n"];
+    for script in ["build\n", "build\nbuild", "build\nput /a.js 5\nabc"] {
+        let cut = ends_so(
+            &rt,
+            rt.alloc(),
+            script,
+            &lines,
+            "metro: script cut in command 2\n",
+        );
+        assert!(rt; cut.expect(&rt, "memory"), "{script}");
+    }
+    let script = "build\nput /a.js 3\nabc\n";
+    let cut = ends_so(
+        &rt,
+        rt.alloc(),
+        script,
+        &lines,
+        "metro: script cut in command 3\n",
+    );
+    assert!(rt; cut.expect(&rt, "memory"));
 }
 
 #[test]
