@@ -11,3 +11,4 @@ pub mod Runs
 pub mod Openings
 pub mod Asked
 pub mod Builds
+pub mod Endings

@@ -73,7 +73,7 @@ abbrev pub IsLimit : Result Taken CrawlFault → Type 0
 IsLimit (Ok taken) = Unit {0}
 IsLimit (Err fault) = status_of (crawl_ending fault) ≡ 6
 
-either_way : {A : Type 0} (P : A → Type 0) (b : Bool) (x y : A) → P x → P y → P (if b then x else y)
+pub either_way : {A : Type 0} (P : A → Type 0) (b : Bool) (x y : A) → P x → P y → P (if b then x else y)
 either_way P true x y h k = h
 either_way P false x y h k = k
 
@@ -100,7 +100,8 @@ limit_of : (r : Result Taken CrawlFault) (fault : CrawlFault) → IsLimit r → 
 limit_of (Ok taken) fault h e = absurd (cc)
 limit_of (Err found) fault h e = let k : found ≡ fault = cc in subst (λ x. status_of (crawl_ending x) ≡ 6) k h
 
-limit_status : (tree : Files) (fault : CrawlFault) → crawled tree ≡ Err fault → status_of (crawl_ending fault) ≡ 6
+-- a crawl of files that are told is refused at a limit alone
+pub limit_status : (tree : Files) (fault : CrawlFault) → crawled tree ≡ Err fault → status_of (crawl_ending fault) ≡ 6
 limit_status tree fault e = limit_of (with_files tree (Ok nothing_taken) (walk_of tree)) fault (files_limit tree (Ok nothing_taken) (walk_of tree) tt) e
 
 -- a limit ends the run, and nothing is written

@@ -23,7 +23,7 @@ abbrev pub left_behind : Files → List (List ℕ) → ℕ → List ℕ → Resu
 left_behind tree entries n rest (Ok step) = with_bytes step.bytes (left_plan tree entries step.standing n rest)
 left_behind tree entries n rest (Err ending) = without_bytes ending
 
-one_behind : (tree : Files) (entries : List (List ℕ)) (over : Option ScriptFault) (commands : List Command) (m : Result Step Ending) → elim m [ Ok step ↦ with_bytes step.bytes (replayed tree entries over step.standing commands) | Err ending ↦ without_bytes ending ] ≡ behind tree entries over commands m
+pub one_behind : (tree : Files) (entries : List (List ℕ)) (over : Option ScriptFault) (commands : List Command) (m : Result Step Ending) → elim m [ Ok step ↦ with_bytes step.bytes (replayed tree entries over step.standing commands) | Err ending ↦ without_bytes ending ] ≡ behind tree entries over commands m
 one_behind tree entries over commands (Ok step) = refl
 one_behind tree entries over commands (Err ending) = refl
 

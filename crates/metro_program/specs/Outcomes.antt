@@ -1,5 +1,5 @@
 -- What a run comes to: the statuses and their reasons, in the words and the files of a folder.
-use Rattle.std.specs.Prelude.{◌≡◌, ◌⊎◌, ℕ, true, List, [], ◌∷◌, Result, Ok, Err, Option}
+use Rattle.std.specs.Prelude.{◌≡◌, ◌≢◌, ◌⊎◌, ℕ, true, List, [], ◌∷◌, Result, Ok, Err, Option, None}
 use Rattle.mt_io.specs.Causes.{Rose}
 use Rattle.mt_io.specs.Files.{Files}
 use Rattle.mt_io.specs.Told.{Grows}
@@ -9,9 +9,11 @@ use Rattle.mt_fresh.specs.Graphs.{GraphMap, fresh_graph}
 use Rattle.mt_files.specs.declared.build_fault.BuildFault.{BuildFault}
 use Rattle.mt_files.specs.declared.fault.CrawlFault.{CrawlFault}
 use Rattle.metro_program.specs.declared.words.Request.{Request}
-use Rattle.metro_program.specs.declared.words.Request.TheVariants.{Bundle}
+use Rattle.metro_program.specs.declared.words.Request.TheVariants.{Bundle, Replay}
+use Rattle.mt_script.specs.Scripts.{script_of}
+use Rattle.metro_program.specs.Ending.{status_of}
 use Rattle.metro_program.specs.Words.{words_of}
-use Rattle.metro_program.specs.Still.{reads_script}
+use Rattle.metro_program.specs.Still.{reads_script, still}
 
 -- a count of faults didn't rise
 abbrev pub Stood : ℕ → ℕ → Type 0
@@ -53,6 +55,13 @@ pub record HasLimit (words : List (List ℕ)) (tree : Files) : Type 0 where
   pub limit : CrawlFault
   pub named : words_of words ≡ Ok (Bundle entry)
   pub met : crawled tree ≡ Err limit
+
+-- the words ask for a replay, the script ends in `end`, and the run meets no limit
+pub record HasEnd (words : List (List ℕ)) (tree : Files) (script : List ℕ) : Type 0 where
+  pub entry : List ℕ
+  pub named : words_of words ≡ Ok (Replay entry)
+  pub over : (script_of script).ending ≡ None
+  pub unlimited : status_of (still words tree script).ending ≢ 6
 
 -- the reasons of the statuses 0, 1 and 6
 pub record HasReason (status : ℕ) (words : List (List ℕ)) (tree : Files) : Type 0 where

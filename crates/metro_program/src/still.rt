@@ -7,7 +7,7 @@ ghost use Rattle.metro_program.specs.Words.{words_of};
 ghost use Rattle.metro_program.specs.Ending.{IsAnswer, IsAnswered, IsBadWord, status_of, line_of};
 ghost use Rattle.metro_program.specs.Still.{HasScript, IsFaultLine, IsRefusedUnread, first_bundle, reads_script, still};
 ghost use Rattle.metro_program.specs.Runs.{Gave};
-ghost use Rattle.metro_program.specs.Outcomes.{ComesTo, HasFault, HasGraph, HasLimit, HasReason, ScriptRose, ScriptStood, Stood};
+ghost use Rattle.metro_program.specs.Outcomes.{ComesTo, HasEnd, HasFault, HasGraph, HasLimit, HasReason, ScriptRose, ScriptStood, Stood};
 
 use crate::bundle::run_bundle;
 use crate::ending::Ending;
@@ -101,6 +101,7 @@ pub fn metro_still<
     ensures done { (tree : Files) (built : HasGraph words.now tree) → F.told folder.old ≡ Some tree → Stood (F.count folder.old) (F.count folder.new) → Stood (O.count out.old) (O.count out.new) → ComesTo 0 (first_bundle built.entry built.graph) result (O.told out.old) (O.told out.new) }
     ensures build_refused { (tree : Files) → HasFault words.now tree → F.told folder.old ≡ Some tree → Stood (F.count folder.old) (F.count folder.new) → Stood (O.count out.old) (O.count out.new) → ComesTo 1 [] result (O.told out.old) (O.told out.new) }
     ensures limit_met { (tree : Files) → HasLimit words.now tree → F.told folder.old ≡ Some tree → Stood (F.count folder.old) (F.count folder.new) → Stood (O.count out.old) (O.count out.new) → ComesTo 6 [] result (O.told out.old) (O.told out.new) }
+    ensures ended { (tree : Files) (bytes : List ℕ) → HasEnd words.now tree bytes → F.told folder.old ≡ Some tree → HasScript (words_of words.now) (I.told script.old) bytes → Stood (F.count folder.old) (F.count folder.new) → ScriptStood (words_of words.now) (I.count script.old) (I.count script.new) → Stood (O.count out.old) (O.count out.new) → (result ≡ 0) ⊎ (result ≡ 1) ⊎ (result ≡ 5) }
 
     // Each answer has its reason, and each fault its cause.
     ensures reason { (tree : Files) → F.told folder.old ≡ Some tree → reads_script (words_of words.now) ≡ false → HasReason result words.now tree }

@@ -3,6 +3,7 @@ use Rattle.metro_program.specs.Words.{words_of}
 use Rattle.metro_program.specs.Still.{still}
 use Rattle.metro_program.proofs.Tells.{answer_of, read_of, refused_status, told_line}
 use Rattle.metro_program.proofs.Outcomes.{answered_by, bundle_unread, done_by, keeps_to_plan, limited_by, reason_by, refused_by, script_stood, script_unread, unread_script}
+use Rattle.metro_program.proofs.Endings.{ended_by}
 use Rattle.metro_program.proofs.still.metro_still.Goals as goal
 
 pub returns-clause-refused : goal.returns-clause-refused
@@ -13,6 +14,9 @@ returns-clause-line g c = λ tree bytes told gives answered calm. told_line c.te
 
 pub returns-clause-complete : goal.returns-clause-complete
 returns-clause-complete g c = λ tree bytes told gives folder script out. keeps_to_plan c.tell.result (still c.args.words.now tree bytes) c.run-ending.result _ _ _ _ _ _ _ (c.run-ending.ensures.ending tree bytes told gives) (c.run-ending.ensures.bytes tree bytes told gives) c.run-ending.ensures.read c.run-ending.ensures.write c.tell.ensures.status folder (script_stood _ _ _ script) out
+
+pub returns-clause-ended : goal.returns-clause-ended
+returns-clause-ended g c = λ tree bytes over told gives folder script out. ended_by c.tell.result _ _ c.args.words.now tree bytes over (keeps_to_plan c.tell.result (still c.args.words.now tree bytes) c.run-ending.result _ _ _ _ _ _ _ (c.run-ending.ensures.ending tree bytes told gives) (c.run-ending.ensures.bytes tree bytes told gives) c.run-ending.ensures.read c.run-ending.ensures.write c.tell.ensures.status folder (script_stood _ _ _ script) out)
 
 pub returns-clause-done : goal.returns-clause-done
 returns-clause-done g c = λ tree built told folder out.
