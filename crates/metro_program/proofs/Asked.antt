@@ -1,13 +1,9 @@
 -- What a run of `replay` keeps to, for the words that ask for it.
-use Rattle.std.proofs.Common.{◌≡◌, ◌∷◌, ℕ, true, List, [], Option, Some, None, Result, Ok, Err, refl, ap, sym, subst, ◌∙◌}
-use Rattle.std.specs.Option.{option_map}
+use Rattle.std.proofs.Common.{◌≡◌, ◌∷◌, ℕ, List, [], Option, Some, Ok, refl, ap, sym, subst}
 use Rattle.mt_io.specs.Files.{Files}
-use Rattle.mt_io.specs.Told.{Grows, GrowsByPrefix, Reading}
+use Rattle.mt_io.specs.Told.{Reading}
 use Rattle.metro_program.specs.declared.ending.Ending.{Ending}
-use Rattle.metro_program.specs.declared.words.Request.{Request}
 use Rattle.metro_program.specs.declared.words.Request.TheVariants.{Replay}
-use Rattle.metro_program.specs.Ending.{IsAnswer}
-use Rattle.metro_program.specs.Plans.{Plan}
 use Rattle.metro_program.specs.Replay.{replay_plan}
 use Rattle.metro_program.specs.Runs.{Keeps}
 use Rattle.metro_program.specs.Still.{HasScript, still, words_plan}

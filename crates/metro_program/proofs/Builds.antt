@@ -1,5 +1,5 @@
 -- What a build gives, and that it keeps the bounds of a stage.
-use Rattle.std.proofs.Common.{inl, inr, ◌≡◌, ◌≤◌, ◌<◌, ◌+◌, ◌==◌, ◌∙◌, ℕ, true, false, List, ◌++◌, map, length, Option, Some, None, Ok, refl, ap, sym, subst, arith, length-append}
+use Rattle.std.proofs.Common.{inl, inr, ◌≡◌, ◌≤◌, ◌<◌, ◌+◌, ◌==◌, ◌∙◌, ℕ, true, false, List, ◌++◌, map, length, if◌then◌else◌, Option, Some, None, Result, Ok, refl, ap, sym, subst, arith, length-append}
 use Rattle.std.specs.List.{IsDistinct}
 use Rattle.std.specs.Option.{IfSome, option_map, option_map_or}
 use Rattle.std.specs.Str.{bytes_eq}
@@ -13,20 +13,22 @@ use Rattle.std.proofs.lemmas.Map.Made.{length-le_from_is_member}
 use Rattle.mt_io.proofs.Tables.{keys_sorted}
 use Rattle.mt_files.specs.Changes.{path_of}
 use Rattle.mt_files.specs.Snapshots.{Snapshot}
+use Rattle.mt_files.specs.declared.build_fault.BuildFault.{BuildFault}
 use Rattle.mt_files.specs.declared.change.Change.{Change}
 use Rattle.mt_fresh.specs.Graphs.{GraphMap, fresh_graph}
 use Rattle.mt_fresh.proofs.Sizes.{fresh_size}
 use Rattle.mt_revision.specs.Contents.{entries_in, modules_in}
+use Rattle.mt_revision.specs.Logs.{number_after}
 use Rattle.mt_revision.specs.Numberings.{extended, has_path}
-use Rattle.mt_revision.specs.Revisions.{bundle_of, held_before, made_after, next_number}
+use Rattle.mt_revision.specs.Revisions.{held_before, made_after, next_number}
 use Rattle.mt_revision.specs.declared.revision.Revision.{Revision}
 use Rattle.mt_revision.proofs.Extensions.{ascending_distinct, extended_distinct}
 use Rattle.metro_program.specs.declared.ending.Ending.TheVariants.{Done}
 use Rattle.metro_program.specs.declared.stage.Stage.{Stage}
 use Rattle.metro_program.specs.Ending.{status_of}
-use Rattle.metro_program.specs.Reports.{revision_line}
-use Rattle.metro_program.specs.Replay.{held_at, numbered_build, seen_in}
-use Rattle.metro_program.specs.Stages.{IsBounded, IsLatest, seen_of, standing}
+use Rattle.metro_program.specs.Reports.{revision_line, same_line}
+use Rattle.metro_program.specs.Replay.{build_after, built, ended, fresh_build, graph_build, held_at, numbered_build, published_in}
+use Rattle.metro_program.specs.Stages.{IsBounded, IsLatest, published_of, standing}
 use Rattle.metro_program.proofs.Bounds.{Known}
 use Rattle.metro_program.proofs.Sources.{numbered_files}
 
@@ -80,24 +82,29 @@ latest_dev journal (Some r) h = h.dev
 abbrev pub next_of : Stage → List (List ℕ) → List (List ℕ) → GraphMap → Revision
 next_of s numbering entries graph = made_after s.latest true (length s.journal) (entries_in numbering entries) (modules_in numbering graph)
 
-number_seen : (latest : Option Revision) → next_number latest ≡ option_map_or (λ seen. seen.number + 1) (option_map seen_of latest) 1
-number_seen None = refl
-number_seen (Some r) = refl
+number_published : (latest : Option Revision) → next_number latest ≡ number_after (option_map published_of latest)
+number_published None = refl
+number_published (Some r) = refl
 
-held_seen : (latest : Option Revision) → held_before latest ≡ option_map_or (λ seen. seen.held) (option_map seen_of latest) empty
-held_seen None = refl
-held_seen (Some r) = refl
+held_published : (latest : Option Revision) → held_before latest ≡ option_map_or (λ r. r.held) (option_map published_of latest) empty
+held_published None = refl
+held_published (Some r) = refl
 
--- what is seen of it
-pub next_seen : (s : Stage) (numbering entries : List (List ℕ)) (graph : GraphMap) (r : Revision) → r ≡ next_of s numbering entries graph → seen_of r ≡ seen_in (standing s) numbering graph
-next_seen s numbering entries graph r e = ap seen_of e ∙ ap (λ n. record { number = n; changes = length s.journal; held = (seen_in (standing s) numbering graph).held }) (number_seen s.latest)
+-- what is published of it
+pub next_published :
+    (s : Stage) (numbering entries : List (List ℕ)) (graph : GraphMap) (r : Revision) → r ≡ next_of s numbering entries graph
+    → published_of r ≡ published_in entries (standing s) numbering graph
+next_published s numbering entries graph r e =
+    let p = published_in entries (standing s) numbering graph in
+    ap published_of e ∙ ap (λ n. record { number = n; changes = length s.journal; held = p.held; bundle = p.bundle }) (number_published s.latest)
 
 -- the line that tells of it
-pub next_line : (s : Stage) (numbering entries : List (List ℕ)) (graph : GraphMap) (r : Revision) → r ≡ next_of s numbering entries graph → revision_line (held_before s.latest) (seen_of r) (bundle_of r) ≡ (numbered_build entries (standing s) numbering graph).bytes
+pub next_line :
+    (s : Stage) (numbering entries : List (List ℕ)) (graph : GraphMap) (r : Revision) → r ≡ next_of s numbering entries graph
+    → revision_line (held_before s.latest) (published_of r) ≡ (numbered_build entries (standing s) numbering graph).bytes
 next_line s numbering entries graph r e =
-    ap (λ held. revision_line held (seen_of r) (bundle_of r)) (held_seen s.latest)
-    ∙ ap (λ seen. revision_line (held_at (standing s)) seen (bundle_of r)) (next_seen s numbering entries graph r e)
-    ∙ ap (λ x. revision_line (held_at (standing s)) (seen_in (standing s) numbering graph) (bundle_of x)) e
+    ap (λ held. revision_line held (published_of r)) (held_published s.latest)
+    ∙ ap (revision_line (held_at (standing s))) (next_published s numbering entries graph r e)
 
 latest_next : (journal : List Change) (latest : Option Revision) → IfSome latest (IsLatest journal) → option_map_or (λ r. r.changes == length journal) latest false ≡ false → next_number latest ≤ length journal + 1
 latest_next journal None h new = omega arith
@@ -106,6 +113,14 @@ latest_next journal (Some r) h new = let n = h.number in let c = h.changes in le
 -- the next revision is the last one
 pub next_latest : (s : Stage) (numbering entries : List (List ℕ)) (graph : GraphMap) (r : Revision) → IsBounded s → option_map_or (λ b. b.changes == length s.journal) s.latest false ≡ false → r ≡ next_of s numbering entries graph → IsLatest s.journal r
 next_latest s numbering entries graph r b new e = subst (IsLatest s.journal) (sym e) (record { dev = refl; number = latest_next s.journal s.latest b.latest new; changes = omega arith })
+
+-- where the last revision doesn't count all accepted changes, the files are built
+new_by : (s : Stage) (entries : List (List ℕ)) (latest : Option Revision) → option_map_or (λ r. r.changes == length s.journal) latest false ≡ false → option_map_or (build_after entries (standing s)) (option_map published_of latest) (fresh_build entries (standing s)) ≡ fresh_build entries (standing s)
+new_by s entries None new = refl
+new_by s entries (Some r) new = ap (λ counted. if counted then record { standing = ended (standing s) Done; bytes = same_line r.number } else fresh_build entries (standing s)) new
+
+pub new_build : (s : Stage) (entries : List (List ℕ)) (g : Result GraphMap BuildFault) → option_map_or (λ r. r.changes == length s.journal) s.latest false ≡ false → fresh_graph s.files entries ≡ g → built entries (standing s) ≡ graph_build entries (standing s) g
+new_build s entries g new fresh = new_by s entries s.latest new ∙ ap (graph_build entries (standing s)) fresh
 
 -- ---- where a build leads
 

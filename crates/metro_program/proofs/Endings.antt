@@ -1,31 +1,27 @@
 -- A replay of a script that ends in `end` ends as its last build did, or at a limit.
-use Rattle.std.proofs.Common.{inl, inr, ◌⊎◌, ◌≡◌, ◌==◌, ℕ, List, [], ◌∷◌, length, Option, Some, None, Result, Ok, Err, refl, sym, ◌∙◌, subst, arith, nat_lt, if◌then◌else◌}
+use Rattle.std.proofs.Common.{inl, inr, ◌⊎◌, ◌≡◌, ◌==◌, ℕ, List, [], ◌∷◌, length, Option, Some, None, Result, Ok, Err, refl, sym, ◌∙◌, subst, nat_lt, if◌then◌else◌}
 use Rattle.std.specs.List.{fold}
 use Rattle.std.specs.Option.{option_map_or}
 use Rattle.mt_io.specs.Files.{Files}
-use Rattle.mt_io.specs.Told.{Grows}
 use Rattle.mt_files.specs.Snapshots.{Snapshot}
 use Rattle.mt_files.specs.Crawl.{crawled, entry_of}
-use Rattle.mt_files.specs.Journals.{full, is_full, journal_bytes, most_changes}
+use Rattle.mt_files.specs.Journals.{full, is_full, most_changes}
 use Rattle.mt_files.specs.Rescans.{changes_between, changes_to}
 use Rattle.mt_files.specs.declared.build_fault.BuildFault.{BuildFault}
 use Rattle.mt_files.specs.declared.fault.CrawlFault.{CrawlFault}
 use Rattle.mt_files.specs.declared.change.Change.{Change}
 use Rattle.mt_files.specs.declared.change.Change.TheVariants as change
 use Rattle.mt_fresh.specs.Graphs.{GraphMap, fresh_graph}
+use Rattle.mt_revision.specs.Logs.{Published}
 use Rattle.mt_script.specs.Scripts.{script_from}
 use Rattle.mt_script.specs.declared.command.Command.{Command}
 use Rattle.mt_script.specs.declared.command.Command.TheVariants.{Put, Del, Rescan, Build, End}
-use Rattle.mt_script.specs.declared.fault.ScriptFault.{ScriptFault}
 use Rattle.metro_program.specs.declared.ending.Ending.{Ending}
 use Rattle.metro_program.specs.declared.ending.Ending.TheVariants.{Done, Limit}
 use Rattle.metro_program.specs.declared.ending.Limit.TheVariants.{Changes, JournalBytes}
-use Rattle.metro_program.specs.declared.words.Request.{Request}
-use Rattle.metro_program.specs.declared.words.Request.TheVariants.{Bundle, Replay}
 use Rattle.metro_program.specs.Ending.{status_of}
-use Rattle.metro_program.specs.Words.{words_of}
-use Rattle.metro_program.specs.Reports.{Seen, same_line}
-use Rattle.metro_program.specs.Replay.{Standing, Step, answered, built, changed, ended, files_plan, fresh_build, graph_build, in_silence, left_plan, moved, opened, replayed, rescanned_by, seen_build, then_changed}
+use Rattle.metro_program.specs.Reports.{same_line}
+use Rattle.metro_program.specs.Replay.{Standing, Step, answered, build_after, built, changed, ended, files_plan, fresh_build, graph_build, in_silence, left_plan, moved, opened, replayed, rescanned_by, then_changed}
 use Rattle.metro_program.specs.Still.{still, words_plan}
 use Rattle.metro_program.specs.Outcomes.{ComesTo, HasEnd}
 use Rattle.metro_program.proofs.Outcomes.{either_way, limit_status}
@@ -45,10 +41,10 @@ graph_built : (entries : List (List ℕ)) (s : Standing) (g : Result GraphMap Bu
 graph_built entries s (Ok graph) = inl refl
 graph_built entries s (Err fault) = inr refl
 
-latest_built : (entries : List (List ℕ)) (s : Standing) (latest : Option Seen) → IsBuilt (option_map_or (seen_build entries s) latest (fresh_build entries s)).standing.ending
+latest_built : (entries : List (List ℕ)) (s : Standing) (latest : Option Published) → IsBuilt (option_map_or (build_after entries s) latest (fresh_build entries s)).standing.ending
 latest_built entries s None = graph_built entries s (fresh_graph s.files entries)
-latest_built entries s (Some seen) =
-    either_way (λ (step : Step). IsBuilt step.standing.ending) (seen.changes == length s.journal) (record { standing = ended s Done; bytes = same_line seen.number }) (fresh_build entries s) (inl refl) (graph_built entries s (fresh_graph s.files entries))
+latest_built entries s (Some last) =
+    either_way (λ (step : Step). IsBuilt step.standing.ending) (last.changes == length s.journal) (record { standing = ended s Done; bytes = same_line last.number }) (fresh_build entries s) (inl refl) (graph_built entries s (fresh_graph s.files entries))
 
 -- ---- changes
 

@@ -12,3 +12,4 @@ pub mod Openings
 pub mod Asked
 pub mod Builds
 pub mod Endings
+pub mod History

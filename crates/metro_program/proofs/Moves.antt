@@ -1,14 +1,13 @@
 -- What a call that led on, or ended a run, says of the command that it carried out.
-use Rattle.std.proofs.Common.{inl, inr, ◌⊎◌, ◌≡◌, ◌≤◌, ◌<◌, ℕ, List, [], ◌∷◌, Option, Result, Ok, Err, refl, ap, sym, subst, ◌∙◌, arith}
+use Rattle.std.proofs.Common.{inl, inr, ◌⊎◌, ◌≡◌, ℕ, List, [], ◌∷◌, Option, Result, Ok, Err, refl, ap, sym, subst, arith}
 use Rattle.std.specs.List.{fold}
-use Rattle.std.specs.Prelude.{IfErr, OnOk}
-use Rattle.mt_io.specs.Told.{Grows}
+use Rattle.std.specs.Prelude.{IfErr}
 use Rattle.mt_io.proofs.Growth.{grows_none, part_none}
 use Rattle.mt_files.specs.declared.change.Change.{Change}
 use Rattle.metro_program.specs.declared.ending.Ending.{Ending}
 use Rattle.metro_program.specs.declared.ending.Ending.TheVariants.{NoMemory, ReadFailed}
-use Rattle.metro_program.specs.Ending.{IsAnswer, status_of}
-use Rattle.metro_program.specs.Replay.{Standing, changed, changed_by, in_silence, then_changed}
+use Rattle.metro_program.specs.Ending.{IsAnswer}
+use Rattle.metro_program.specs.Replay.{Standing, changed, in_silence, then_changed}
 use Rattle.metro_program.specs.Stages.{Halted, IsMove, Went}
 
 -- a call led where it was to lead or ended the run so, or memory ran out

@@ -1,5 +1,5 @@
 -- How a replay begins: with a crawl and a build.
-use Rattle.std.proofs.Common.{inl, inr, ◌⊎◌, ◌≡◌, ◌≤◌, ◌<◌, ℕ, List, Option, Result, Ok, Err, refl, ap, sym, subst, ◌∙◌, arith}
+use Rattle.std.proofs.Common.{inl, inr, ◌⊎◌, ◌≡◌, ℕ, List, Option, Result, Ok, Err, refl, sym, subst, arith}
 use Rattle.mt_io.specs.Files.{Files}
 use Rattle.mt_io.specs.Told.{Grows, GrowsByPrefix}
 use Rattle.mt_io.proofs.Growth.{grows_then}

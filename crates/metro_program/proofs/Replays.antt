@@ -1,10 +1,9 @@
 -- How the plan of a replay goes on, command by command.
-use Rattle.std.proofs.Common.{◌≡◌, ◌+◌, ◌++◌, ℕ, List, [], ◌∷◌, Option, Some, None, Result, Ok, Err, refl, ap, sym, subst, ◌∙◌}
-use Rattle.std.specs.Option.{option_map_or}
+use Rattle.std.proofs.Common.{◌≡◌, ◌+◌, ℕ, List, Option, Result, Ok, Err, refl, ap, ◌∙◌}
 use Rattle.mt_io.specs.Files.{Files}
 use Rattle.mt_script.specs.Commands.{GoesOn}
-use Rattle.mt_script.specs.Scripts.{Script, script_from, with_command}
-use Rattle.mt_script.specs.Steps.{Step as Next, Found, Stopped, next_of}
+use Rattle.mt_script.specs.Scripts.{script_from}
+use Rattle.mt_script.specs.Steps.{Found, Stopped, next_of}
 use Rattle.mt_script.specs.declared.command.Command.{Command}
 use Rattle.mt_script.specs.declared.command.Command.TheVariants.{Put, Del, Rescan, Build, End}
 use Rattle.mt_script.specs.declared.fault.ScriptFault.{ScriptFault}

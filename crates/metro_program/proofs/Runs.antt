@@ -1,13 +1,13 @@
 -- How a run goes on in its script, and how it ends.
-use Rattle.std.proofs.Common.{inl, inr, ◌⊎◌, ◌≡◌, ◌+◌, ◌<◌, ◌≤◌, ◌++◌, ℕ, List, [], ◌∷◌, take, drop, Option, Some, None, Result, Ok, Err, refl, ap, sym, subst, ◌∙◌, append_assoc, append-nil, arith}
+use Rattle.std.proofs.Common.{◌≡◌, ◌+◌, ◌≤◌, ◌++◌, ℕ, List, [], take, drop, Option, Some, Result, Ok, Err, refl, ap, sym, subst, ◌∙◌, append_assoc, append-nil, arith}
 use Rattle.std.proofs.lemmas.List.{append_cancel_left, take-append-drop}
 use Rattle.std.specs.Prelude.{OnOk, IfErr}
 use Rattle.mt_io.specs.Files.{Files}
 use Rattle.mt_io.specs.Causes.{Rose}
-use Rattle.mt_io.specs.Told.{Grows, GrowsByPrefix, Reading, read_on}
-use Rattle.mt_io.proofs.Growth.{grows_none, grows_then, part_all, part_more, part_none, part_then}
-use Rattle.mt_script.specs.Reads.{Finds, Interrupted, IsOf, Progress, ReadOn}
-use Rattle.mt_script.specs.Steps.{Step as Next, Found, Stopped, next_of}
+use Rattle.mt_io.specs.Told.{Grows, Reading, read_on}
+use Rattle.mt_io.proofs.Growth.{grows_none, grows_then, part_none}
+use Rattle.mt_script.specs.Reads.{Finds, Interrupted, IsOf, Progress}
+use Rattle.mt_script.specs.Steps.{Found, Stopped, next_of}
 use Rattle.mt_script.specs.declared.command.Command.{Command}
 use Rattle.mt_script.specs.declared.fault.ScriptFault.{ScriptFault}
 use Rattle.metro_program.specs.declared.ending.Ending.{Ending}

@@ -1,28 +1,28 @@
 -- The modules of a fresh graph are files, and so are its entries.
-use Rattle.std.proofs.Common.{inl, inr, ◌⊎◌, ◌≡◌, ◌≤◌, ◌<◌, ◌+◌, ℕ, Bool, true, false, cond, not, List, [], ◌∷◌, ◌++◌, map, filter, length, Option, Some, None, Result, Ok, Err, refl, ap, sym, subst, ◌∙◌, nat_lt, if◌then◌else◌, arith, length-append}
-use Rattle.std.specs.List.{cons_option, filter_map, flat_map, list_any, IsDistinct}
+use Rattle.std.proofs.Common.{inl, inr, ◌⊎◌, ◌≡◌, ℕ, Bool, true, false, cond, not, List, [], ◌∷◌, ◌++◌, filter, length, Option, Some, None, Ok, refl, ap, sym, ◌∙◌, nat_lt, if◌then◌else◌}
+use Rattle.std.specs.List.{cons_option, filter_map, flat_map, list_any}
 use Rattle.std.specs.Option.{is_some, option_and_then, option_map, option_map_or}
 use Rattle.std.specs.Result.{result_ok}
 use Rattle.std.specs.Str.{bytes_eq}
 use Rattle.std.specs.Ordering.{nat_cmp, eq_by_cmp}
 use Rattle.std.specs.Cmp.Lexicographic.{slice_cmp, nat_list_cmp_total}
-use Rattle.std.specs.FinMap.{contains_key, contains_key-keys, find, from_entries, get, get-from_entries, keys}
+use Rattle.std.specs.FinMap.{contains_key, contains_key-keys, find, get, get-from_entries, keys}
 use Rattle.std.proofs.lemmas.Bool.{or_cases}
 use Rattle.std.proofs.lemmas.List.Folds.{list_any-append}
 use Rattle.mt_io.proofs.Children.{tied_is}
 use Rattle.mt_tokens.specs.Transform.{transformed}
-use Rattle.mt_files.specs.Edges.{faults_at, kind_of, made_faults, transformed_at}
+use Rattle.mt_files.specs.Edges.{faults_at, kind_of, made_faults}
 use Rattle.mt_files.specs.Fresh.{all_faults, decided, members}
 use Rattle.mt_files.specs.Reach.{reach}
 use Rattle.mt_files.specs.Snapshots.{Snapshot, source_at, source_of}
 use Rattle.mt_files.specs.declared.build_fault.BuildFault.{BuildFault}
 use Rattle.mt_files.specs.declared.build_fault.BuildFault.TheVariants.{EntryMissing, TooManyModules}
 use Rattle.mt_files.specs.declared.file_map.Entry.{Entry}
-use Rattle.mt_files.proofs.Reaches.{Has, has_filter, has_head, has_key, has_tail, same_path}
+use Rattle.mt_files.proofs.Reaches.{Has, has_filter, has_key, same_path}
 use Rattle.mt_fresh.specs.Graphs.{GraphMap, found_of, fresh_graph, graph_of, module_at}
 use Rattle.mt_fresh.specs.Output.{output_of}
 use Rattle.mt_fresh.specs.declared.graph.Found.{Found}
-use Rattle.mt_fresh.proofs.Explores.{append_left, append_right, has_ascending}
+use Rattle.mt_fresh.proofs.Explores.{append_left, has_ascending}
 use Rattle.mt_revision.specs.Numberings.{extended, has_path, with_new}
 
 -- ---- a graph that was found

@@ -4,6 +4,7 @@ pub mod Words
 pub mod Plans
 pub mod Reports
 pub mod Replay
+pub mod History
 pub mod Stages
 pub mod Runs
 pub mod Still

@@ -1,7 +1,7 @@
 -- What a replay of an edit script writes, and how it ends.
-use Rattle.std.specs.Prelude.{ℕ, true, List, [], ◌∷◌, ◌++◌, ◌+◌, ◌==◌, length, if◌then◌else◌, Option, Some, None, Result, Ok, Err}
+use Rattle.std.specs.Prelude.{ℕ, true, List, [], ◌∷◌, ◌++◌, ◌==◌, length, if◌then◌else◌, Option, Some, None, Result, Ok, Err}
 use Rattle.std.specs.List.{fold}
-use Rattle.std.specs.Option.{option_map, option_map_or}
+use Rattle.std.specs.Option.{option_map_or}
 use Rattle.std.specs.FinMap.{empty, keys}
 use Rattle.mt_io.specs.Files.{Files}
 use Rattle.mt_files.specs.Snapshots.{Snapshot}
@@ -18,13 +18,14 @@ use Rattle.mt_fresh.specs.Graphs.{GraphMap, fresh_graph}
 use Rattle.mt_revision.specs.Numberings.{extended}
 use Rattle.mt_revision.specs.Texts.{Texts}
 use Rattle.mt_revision.specs.Builds.{held_in, bundle_in}
+use Rattle.mt_revision.specs.Logs.{Published, number_after}
 use Rattle.mt_script.specs.Scripts.{Script, script_from}
 use Rattle.mt_script.specs.declared.command.Command.{Command}
 use Rattle.mt_script.specs.declared.command.Command.TheVariants.{Put, Del, Rescan, Build, End}
 use Rattle.mt_script.specs.declared.fault.ScriptFault.{ScriptFault}
 use Rattle.metro_program.specs.declared.ending.Ending.{Ending}
 use Rattle.metro_program.specs.declared.ending.Ending.TheVariants.{Done, Refused}
-use Rattle.metro_program.specs.Reports.{Seen, revision_line, same_line, refused_line}
+use Rattle.metro_program.specs.Reports.{revision_line, same_line, refused_line}
 use Rattle.metro_program.specs.Plans.{Plan, without_bytes, with_bytes, crawl_ending, journal_ending, script_ending}
 
 -- where a replay stands: its files, the accepted changes, the numbered paths, the last revision, and how the last build ended
@@ -32,7 +33,7 @@ pub record Standing : Type 0 where
   pub files : Snapshot
   pub journal : List Change
   pub numbering : List (List ℕ)
-  pub latest : Option Seen
+  pub latest : Option Published
   pub ending : Ending
 
 -- where a step of a replay leads, and what it writes
@@ -52,35 +53,44 @@ ended s ending = record { files = s.files; journal = s.journal; numbering = s.nu
 
 -- the texts that the last revision holds, or none
 abbrev pub held_at : Standing → Texts
-held_at s = option_map_or (λ seen. seen.held) s.latest empty
+held_at s = option_map_or (λ r. r.held) s.latest empty
 
--- what the build of a graph gives under a numbering
-abbrev pub seen_in : Standing → List (List ℕ) → GraphMap → Seen
-seen_in s numbering graph = record { number = option_map_or (λ seen. seen.number + 1) s.latest 1; changes = length s.journal; held = held_in true numbering graph }
+-- the revision that the build of a graph gives under a numbering
+abbrev pub published_in : List (List ℕ) → Standing → List (List ℕ) → GraphMap → Published
+published_in entries s numbering graph = record {
+  number = number_after s.latest;
+  changes = length s.journal;
+  held = held_in true numbering graph;
+  bundle = bundle_in true numbering entries graph;
+}
 
 -- the build of a graph under a numbering: it gives the next revision
 abbrev pub numbered_build : List (List ℕ) → Standing → List (List ℕ) → GraphMap → Step
 numbered_build entries s numbering graph = record {
-  standing = record { files = s.files; journal = s.journal; numbering = numbering; latest = Some (seen_in s numbering graph); ending = Done };
-  bytes = revision_line (held_at s) (seen_in s numbering graph) (bundle_in true numbering entries graph);
+  standing = record { files = s.files; journal = s.journal; numbering = numbering; latest = Some (published_in entries s numbering graph); ending = Done };
+  bytes = revision_line (held_at s) (published_in entries s numbering graph);
 }
 
--- the build of a fresh graph: paths that have no number get one; a refusal gives no number and no revision
+-- the build that is refused: it gives no number and no revision
+abbrev pub refused_build : Standing → BuildFault → Step
+refused_build s fault = record { standing = ended s (Refused fault); bytes = refused_line (length s.journal) fault }
+
+-- the build of a fresh graph: paths that have no number get one
 abbrev pub graph_build : List (List ℕ) → Standing → Result GraphMap BuildFault → Step
 graph_build entries s (Ok graph) = numbered_build entries s (extended s.numbering entries (keys graph)) graph
-graph_build entries s (Err fault) = record { standing = ended s (Refused fault); bytes = refused_line (length s.journal) fault }
+graph_build entries s (Err fault) = refused_build s fault
 
 -- the build of the files
 abbrev pub fresh_build : List (List ℕ) → Standing → Step
 fresh_build entries s = graph_build entries s (fresh_graph s.files entries)
 
 -- the build that is asked for, which is none where the last revision counts all accepted changes
-abbrev pub seen_build : List (List ℕ) → Standing → Seen → Step
-seen_build entries s seen = if seen.changes == length s.journal then record { standing = ended s Done; bytes = same_line seen.number } else fresh_build entries s
+abbrev pub build_after : List (List ℕ) → Standing → Published → Step
+build_after entries s last = if last.changes == length s.journal then record { standing = ended s Done; bytes = same_line last.number } else fresh_build entries s
 
 -- the same, also before the first revision
 abbrev pub built : List (List ℕ) → Standing → Step
-built entries s = option_map_or (seen_build entries s) s.latest (fresh_build entries s)
+built entries s = option_map_or (build_after entries s) s.latest (fresh_build entries s)
 
 -- ---- changes
 

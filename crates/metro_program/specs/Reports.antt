@@ -8,6 +8,7 @@ use Rattle.mt_files.specs.declared.build_fault.BuildFault.{BuildFault}
 use Rattle.mt_fresh.specs.FaultText.{text_of}
 use Rattle.mt_revision.specs.Texts.{Texts}
 use Rattle.mt_revision.specs.Held.{Delta, delta}
+use Rattle.mt_revision.specs.Logs.{Published}
 
 -- a name and a number
 abbrev pub field : List ℕ → ℕ → List ℕ
@@ -21,16 +22,10 @@ delta_text d = field (codes " added ") (length d.added) ++ field (codes " modifi
 abbrev pub bundle_text : List ℕ → List ℕ
 bundle_text bundle = field (codes " bytes ") (length bundle) ++ codes " digest " ++ encode_lower (sha256 bundle)
 
--- what a build gave: its number, how many changes were accepted before it, and the texts of its modules
-pub record Seen : Type 0 where
-  pub number : ℕ
-  pub changes : ℕ
-  pub held : Texts
-
--- the line of a build that gave a revision with this bundle, where these texts were held before
-abbrev pub revision_line : Texts → Seen → List ℕ → List ℕ
-revision_line before seen bundle =
-    field (codes "revision ") seen.number ++ field (codes " changes ") seen.changes ++ field (codes " modules ") (len seen.held) ++ delta_text (delta before seen.held) ++ bundle_text bundle ++ codes "\n"
+-- the line of a build that gave a revision, where these texts were held before
+abbrev pub revision_line : Texts → Published → List ℕ
+revision_line before revision =
+    field (codes "revision ") revision.number ++ field (codes " changes ") revision.changes ++ field (codes " modules ") (len revision.held) ++ delta_text (delta before revision.held) ++ bundle_text revision.bundle ++ codes "\n"
 
 -- the line of a build before which no change was accepted since the revision
 abbrev pub same_line : ℕ → List ℕ

@@ -4,7 +4,6 @@ use Rattle.mt_io.specs.Files.{Files}
 use Rattle.mt_io.specs.Told.{Grows, GrowsByPrefix, Reading}
 use Rattle.mt_script.specs.Reads.{Progress}
 use Rattle.metro_program.specs.declared.ending.Ending.{Ending}
-use Rattle.metro_program.specs.declared.ending.Ending.TheVariants.{ReadFailed}
 use Rattle.metro_program.specs.Ending.{IsAnswer}
 use Rattle.metro_program.specs.Plans.{Plan, with_bytes}
 use Rattle.metro_program.specs.Replay.{Standing, left_plan}

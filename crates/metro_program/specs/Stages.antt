@@ -7,22 +7,22 @@ use Rattle.std.specs.Str.{bytes_eq}
 use Rattle.mt_io.specs.Told.{Grows, GrowsByPrefix}
 use Rattle.mt_files.specs.Changes.{path_of}
 use Rattle.mt_files.specs.declared.change.Change.{Change}
+use Rattle.mt_revision.specs.Logs.{Published}
 use Rattle.mt_revision.specs.Numberings.{has_path}
-use Rattle.mt_revision.specs.Revisions.{held_of}
+use Rattle.mt_revision.specs.Revisions.{bundle_of, held_of}
 use Rattle.mt_revision.specs.declared.revision.Revision.{Revision}
 use Rattle.metro_program.specs.declared.ending.Ending.{Ending}
 use Rattle.metro_program.specs.declared.stage.Stage.{Stage}
-use Rattle.metro_program.specs.Reports.{Seen}
 use Rattle.metro_program.specs.Replay.{Standing, Step}
 use Rattle.metro_program.specs.Ending.{IsAnswer, status_of}
 
--- what is seen of a revision
-abbrev pub seen_of : Revision → Seen
-seen_of r = record { number = r.number; changes = r.changes; held = held_of r }
+-- what is published of a revision
+abbrev pub published_of : Revision → Published
+published_of r = record { number = r.number; changes = r.changes; held = held_of r; bundle = bundle_of r }
 
 -- where a replay stands
 abbrev pub standing : Stage → Standing
-standing s = record { files = s.files; journal = s.journal; numbering = s.numbering; latest = option_map seen_of s.latest; ending = s.ending }
+standing s = record { files = s.files; journal = s.journal; numbering = s.numbering; latest = option_map published_of s.latest; ending = s.ending }
 
 -- the last revision is for development, counts no more changes than were accepted, and each revision before it counted fewer
 pub record IsLatest (journal : List Change) (r : Revision) : Type 0 where

@@ -1,5 +1,5 @@
 //! The builds of a replay.
-ghost use Rattle.std.specs.Prelude.{◌≡◌, ◌≤◌, ◌==◌, ◌⊎◌, [], false, Ok, Err, OnOk, OnErr, IfOk, length, option_copied};
+ghost use Rattle.std.specs.Prelude.{◌≡◌, ◌≤◌, ◌==◌, ◌⊎◌, false, Ok, OnOk, OnErr, IfOk, length, option_copied};
 ghost use Rattle.std.specs.List.{IsDistinct};
 ghost use Rattle.std.specs.Option.{IfSome, option_map_or};
 ghost use Rattle.std.specs.Str.{bytes_eq};
@@ -10,8 +10,8 @@ ghost use Rattle.mt_fresh.specs.Graphs.{fresh_graph};
 ghost use Rattle.mt_revision.specs.Builds.{bundle_in, held_in};
 ghost use Rattle.mt_revision.specs.Numberings.{extended};
 ghost use Rattle.metro_program.specs.Reports.{revision_line, same_line};
-ghost use Rattle.metro_program.specs.Replay.{built, ended, graph_build, held_at, numbered_build, seen_in};
-ghost use Rattle.metro_program.specs.Stages.{IsBounded, IsLatest, seen_of, standing};
+ghost use Rattle.metro_program.specs.Replay.{built, ended, graph_build, held_at, numbered_build, published_in, refused_build};
+ghost use Rattle.metro_program.specs.Stages.{IsBounded, IsLatest, published_of, standing};
 
 use crate::OPTIONS;
 use crate::ending::Ending;
@@ -55,7 +55,7 @@ fn next_build(
     requires bounded { IsBounded stage.now }
     requires new { option_map_or (λ r. r.changes == length stage.now.journal) stage.now.latest false ≡ false }
     ensures numbering { IfOk result (λ b. b.numbering ≡ extended stage.now.numbering entries.now (map.keys graph)) }
-    ensures seen { IfOk result (λ b. seen_of b.revision ≡ seen_in (standing stage.now) (extended stage.now.numbering entries.now (map.keys graph)) graph) }
+    ensures published { IfOk result (λ b. published_of b.revision ≡ published_in entries.now (standing stage.now) (extended stage.now.numbering entries.now (map.keys graph)) graph) }
     ensures line { IfOk result (λ b. b.line ≡ (numbered_build entries.now (standing stage.now) (extended stage.now.numbering entries.now (map.keys graph)) graph).bytes) }
     ensures latest { IfOk result (λ b. IsLatest stage.now.journal b.revision) }
 {
@@ -120,9 +120,9 @@ fn refuse<O: Sink>(
     out: &mut O,
 ) -> Result<(), Trouble>
     requires bounded { IsBounded stage.old }
-    ensures standing { OnOk result (standing stage.new ≡ (graph_build [] (standing stage.old) (Err fault)).standing) }
-    ensures all { OnOk result (Grows (O.told out.old) (O.told out.new) (graph_build [] (standing stage.old) (Err fault)).bytes) }
-    ensures part { OnErr result (GrowsByPrefix (O.told out.old) (O.told out.new) (graph_build [] (standing stage.old) (Err fault)).bytes) }
+    ensures standing { OnOk result (standing stage.new ≡ (refused_build (standing stage.old) fault).standing) }
+    ensures all { OnOk result (Grows (O.told out.old) (O.told out.new) (refused_build (standing stage.old) fault).bytes) }
+    ensures part { OnErr result (GrowsByPrefix (O.told out.old) (O.told out.new) (refused_build (standing stage.old) fault).bytes) }
     ensures bounded { OnOk result (IsBounded stage.new) }
     ensures cause { HasCause (O.count out.old) (O.count out.new) result }
     ensures apart { O.beside out.new ≡ O.beside out.old }

@@ -5,7 +5,7 @@ ghost use Rattle.hex.specs.Hex.{encode_lower};
 ghost use Rattle.mt_revision.specs.Held.{delta, touched_between};
 ghost use Rattle.mt_revision.specs.Revisions.{bundle_of, held_before, held_of};
 ghost use Rattle.metro_program.specs.Reports.{bundle_text, delta_text, field, refused_line, revision_line, same_line};
-ghost use Rattle.metro_program.specs.Stages.{seen_of};
+ghost use Rattle.metro_program.specs.Stages.{published_of};
 
 use crate::digest::DigestSink;
 use mt_files::BuildFault;
@@ -80,7 +80,7 @@ pub fn revision_line(
     revision: &Revision,
 ) -> Result<Text, AllocError>
     requires touched { revision.now.touched ≡ touched_between (held_before (option_copied before)) (held_of revision.now) }
-    ensures line { IfOk result (λ line. line ≡ revision_line (held_before (option_copied before.entry)) (seen_of revision.now) (bundle_of revision.now)) }
+    ensures line { IfOk result (λ line. line ≡ revision_line (held_before (option_copied before.entry)) (published_of revision.now)) }
 {
     let mut line = Text::new(alloc);
     push_number(alloc, &mut line, "revision ", revision.number() as usize)?;

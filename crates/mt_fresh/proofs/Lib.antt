@@ -9,4 +9,5 @@ pub mod Bodies
 pub mod Gathering
 pub mod Quoting
 pub mod Sizes
+pub mod Targets
 pub mod Firsts

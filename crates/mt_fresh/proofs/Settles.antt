@@ -38,7 +38,7 @@ use Rattle.mt_fresh.proofs.Explores.{has_ascending, append_right}
 use Rattle.mt_io.proofs.Tables.{entries_table, keys_sorted}
 
 -- a path without faults has a module, and its row is that; else its row is the first fault
-abbrev Fits : Snapshot → List ℕ → Type 0
+abbrev pub Fits : Snapshot → List ℕ → Type 0
 Fits files p =
     ((found : Found) × ((faults_at files p ≡ []) × (row files p ≡ Made found) × (module_at files p ≡ Some found)))
     ⊎ ((f : BuildFault) × ((fs : List BuildFault) × ((faults_at files p ≡ f ∷ fs) × (row files p ≡ Refused f))))
@@ -113,7 +113,7 @@ fits_source files p None e = inr (
   ),
 )
 
-fits : (files : Snapshot) (p : List ℕ) → Fits files p
+pub fits : (files : Snapshot) (p : List ℕ) → Fits files p
 fits files p = fits_source files p (source_at files p) refl
 
 -- the key of a path is not among those before it
@@ -135,7 +135,7 @@ not_before (x ∷ xs) p ps h =
     ∙ not_before xs p ps h.1
 
 -- the modules of some members
-abbrev pairs : Snapshot → List (List ℕ) → List (List ℕ × Found)
+abbrev pub pairs : Snapshot → List (List ℕ) → List (List ℕ × Found)
 pairs files ps = filter_map (λ path. option_map (λ found. (path, found)) (module_at files path)) ps
 
 decided_same : (g k : GraphMap) (fs : List BuildFault) → g ≡ k → decided g fs ≡ decided k fs
@@ -164,7 +164,7 @@ settled_from files (p ∷ ps) xs h =
           ∙ sym (ap (λ fs. decided (from_entries (xs ++ pairs files (p ∷ ps))) (fs ++ flat_map (faults_at files) ps)) good.1.0)
     ]
 
-members_sorted : (files : Snapshot) (entries : List (List ℕ)) → IsStrictlySortedBy (slice_cmp nat_cmp) (members files entries)
+pub members_sorted : (files : Snapshot) (entries : List (List ℕ)) → IsStrictlySortedBy (slice_cmp nat_cmp) (members files entries)
 members_sorted files entries = keys_sorted (slice_cmp nat_cmp) (from_entries (map (λ p. (p, p)) (entries ++ reach files entries)))
 
 row_keys : (files : Snapshot) (ps : List (List ℕ)) → map (λ (e : List ℕ × Row). e.0) (map (λ p. (p, row files p)) ps) ≡ ps
@@ -178,13 +178,13 @@ rows_entries files start = entries_table (map (λ p. (p, row files p)) (members 
 pub settled_members : (files : Snapshot) (start : List (List ℕ)) → settled empty (entries (rows_of files start)) ≡ decided (graph_of files start) (flat_map (faults_at files) (members files start))
 settled_members files start = ap (settled empty) (rows_entries files start) ∙ settled_from files (members files start) [] (members_sorted files start)
 
-both_same : (b c : Bool) → (b ≡ true → c ≡ true) → (c ≡ true → b ≡ true) → b ≡ c
+pub both_same : (b c : Bool) → (b ≡ true → c ≡ true) → (c ≡ true → b ≡ true) → b ≡ c
 both_same true c h k = sym (h refl)
 both_same false true h k = k refl
 both_same false false h k = refl
 
 -- a source among the members is reached
-source_reached : (files : Snapshot) (start : List (List ℕ)) (q : List ℕ) → Has (filter (has_source files) (members files start)) q → Has (reach files start) q
+pub source_reached : (files : Snapshot) (start : List (List ℕ)) (q : List ℕ) → Has (filter (has_source files) (members files start)) q → Has (reach files start) q
 source_reached files start q h =
     let f = has_filter (has_source files) (members files start) q h in
     elim (or_cases (list_any (bytes_eq q) start) (list_any (bytes_eq q) (reach files start)) (sym (list_any-append (bytes_eq q) start (reach files start)) ∙ sym (has_ascending (start ++ reach files start) q) ∙ f.0)) [
@@ -193,7 +193,7 @@ source_reached files start q h =
     ]
 
 -- and what is reached is a source among the members
-reached_source : (files : Snapshot) (start : List (List ℕ)) (q : List ℕ) → Has (reach files start) q → Has (filter (has_source files) (members files start)) q
+pub reached_source : (files : Snapshot) (start : List (List ℕ)) (q : List ℕ) → Has (reach files start) q → Has (filter (has_source files) (members files start)) q
 reached_source files start q h =
     let w = reached_is_end files start q h in
     filter_has (has_source files) (members files start) q (has_ascending (start ++ reach files start) q ∙ append_right start (reach files start) q h) (end_is_source files start w.0 q w.1)

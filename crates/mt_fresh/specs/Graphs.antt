@@ -1,11 +1,11 @@
 -- The modules of a fresh graph, with what their sources become.
-use Rattle.std.specs.Prelude.{ℕ, List, Option, Result}
+use Rattle.std.specs.Prelude.{ℕ, List, map, Option, Result, Ok, Err}
 use Rattle.std.specs.List.{filter_map}
 use Rattle.std.specs.Option.{option_map, option_and_then}
 use Rattle.std.specs.Result.{result_ok}
 use Rattle.std.specs.Ordering.{nat_cmp}
 use Rattle.std.specs.Cmp.Lexicographic.{slice_cmp}
-use Rattle.std.specs.FinMap.{FinMap, from_entries}
+use Rattle.std.specs.FinMap.{FinMap, entries, from_entries}
 use Rattle.mt_files.specs.Snapshots.{Snapshot, source_at}
 use Rattle.mt_files.specs.Edges.{edges, kind_of}
 use Rattle.mt_files.specs.Fresh.{all_faults, decided, members}
@@ -33,3 +33,12 @@ graph_of files entries = from_entries (filter_map (λ path. option_map (λ found
 -- the modules of the fresh graph of a snapshot and its entries, or the first fault
 abbrev pub fresh_graph : Snapshot → List (List ℕ) → Result GraphMap BuildFault
 fresh_graph files entries = decided (graph_of files entries) (all_faults files entries)
+
+-- what each module of a graph requires
+abbrev pub targets_in : GraphMap → FinMap (slice_cmp nat_cmp) (List (List ℕ))
+targets_in graph = from_entries (map (λ e. (e.0, e.1.targets)) (entries graph))
+
+-- the same of a graph that was built, or the fault
+abbrev pub targets_found : Result GraphMap BuildFault → Result (FinMap (slice_cmp nat_cmp) (List (List ℕ))) BuildFault
+targets_found (Ok graph) = Ok (targets_in graph)
+targets_found (Err fault) = Err fault

@@ -4,3 +4,4 @@ pub mod Held
 pub mod Revisions
 pub mod Contents
 pub mod Builds
+pub mod Logs

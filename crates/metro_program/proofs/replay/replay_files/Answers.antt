@@ -1,4 +1,4 @@
-use Rattle.std.proofs.Common.{◌≡◌, ap, subst, ◌∙◌}
+use Rattle.std.proofs.Common.{ap, subst, ◌∙◌}
 use Rattle.mt_io.specs.Told.{Grows, GrowsByPrefix}
 use Rattle.metro_program.specs.Replay.{built, opened}
 use Rattle.metro_program.specs.Stages.{standing}

@@ -1,4 +1,4 @@
-use Rattle.std.proofs.Common.{◌≡◌, ◌∷◌, [], subst, ◌∙◌}
+use Rattle.std.proofs.Common.{◌∷◌, [], subst, ◌∙◌}
 use Rattle.std.specs.List.{IsDistinct}
 use Rattle.mt_io.specs.Told.{Grows}
 use Rattle.mt_files.specs.Crawl.{crawled}

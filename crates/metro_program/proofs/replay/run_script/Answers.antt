@@ -1,6 +1,4 @@
-use Rattle.std.proofs.Common.{◌≡◌, Some, Err, [], ap, sym, subst, ◌∙◌}
-use Rattle.mt_io.specs.Files.{Files}
-use Rattle.mt_io.specs.Told.{Reading}
+use Rattle.std.proofs.Common.{Err, ap, sym, subst, ◌∙◌}
 use Rattle.metro_program.specs.declared.ending.Ending.TheVariants.{NoMemory}
 use Rattle.metro_program.specs.Runs.{Run, Start}
 use Rattle.metro_program.specs.Stages.{standing}

@@ -1,9 +1,8 @@
-use Rattle.std.proofs.Common.{Ok, Err, ap, sym, subst, ◌∙◌, ◌≡◌}
-use Rattle.metro_program.specs.Plans.{script_ending}
+use Rattle.std.proofs.Common.{Err, ap, sym, subst, ◌∙◌, ◌≡◌}
 use Rattle.metro_program.specs.declared.ending.Ending.TheVariants.{ReadFailed}
-use Rattle.metro_program.specs.Replay.{left_plan, moved}
-use Rattle.metro_program.specs.Runs.{Ends, Keeps, Run}
-use Rattle.metro_program.specs.Stages.{Halted, Went, standing}
+use Rattle.metro_program.specs.Replay.{left_plan}
+use Rattle.metro_program.specs.Runs.{Keeps}
+use Rattle.metro_program.specs.Stages.{standing}
 use Rattle.metro_program.proofs.Runs.{failed_by, if_err, on_ok, turn_halted, turn_lines, turn_stopped, turn_went}
 use Rattle.metro_program.proofs.replay.turn.Goals as goal
 
