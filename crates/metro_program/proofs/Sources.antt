@@ -22,7 +22,8 @@ use Rattle.mt_files.proofs.Reaches.{Has, has_filter, has_key, same_path}
 use Rattle.mt_fresh.specs.Graphs.{GraphMap, found_of, fresh_graph, graph_of, module_at}
 use Rattle.mt_fresh.specs.Output.{output_of}
 use Rattle.mt_fresh.specs.declared.graph.Found.{Found}
-use Rattle.mt_fresh.proofs.Explores.{append_left, has_ascending}
+use Rattle.mt_files.proofs.Unions.{has_ascending}
+use Rattle.mt_fresh.proofs.Explores.{append_left}
 use Rattle.mt_revision.specs.Numberings.{extended, has_path, with_new}
 
 -- ---- a graph that was found

@@ -17,7 +17,8 @@ use Rattle.mt_files.proofs.Reaches.{has_key, same_path}
 
 -- ---- the keys of maps that are made of lists
 
-find_made : {X : Type 0} (f : List ℕ → X) (xs : List (List ℕ)) (q : List ℕ) → find (slice_cmp nat_cmp) q (map (λ p. (p, f p)) xs) ≡ cond (list_any (bytes_eq q) xs) (Some (f q)) None
+-- what a list of keys finds
+pub find_made : {X : Type 0} (f : List ℕ → X) (xs : List (List ℕ)) (q : List ℕ) → find (slice_cmp nat_cmp) q (map (λ p. (p, f p)) xs) ≡ cond (list_any (bytes_eq q) xs) (Some (f q)) None
 find_made f [] q = refl
 find_made f (x ∷ xs) q = elim (cases_Bool (bytes_eq q x)) [
   | inl e ↦ ap (λ b. cond b (Some (f x)) (find (slice_cmp nat_cmp) q (map (λ p. (p, f p)) xs))) (is_eq-slice_cmp q x ∙ e)

@@ -1,11 +1,11 @@
 -- A traversal with a stack meets the members.
-use Rattle.std.proofs.Common.{inl, inr, ◌⊎◌, ◌≡◌, ℕ, zero, suc, Bool, true, false, ◌||◌, List, [], ◌∷◌, ◌++◌, map, Option, Some, None, refl, ap, sym, ◌∙◌, cond, subst}
+use Rattle.std.proofs.Common.{inl, inr, ◌⊎◌, ◌≡◌, ℕ, zero, suc, true, false, List, [], ◌∷◌, ◌++◌, map, Option, Some, None, refl, ap, sym, ◌∙◌, cond, subst}
 use Rattle.std.specs.List.{list_any, filter_map}
 use Rattle.std.specs.Option.{is_some, option_map, option_map_or}
 use Rattle.std.specs.Str.{bytes_eq}
 use Rattle.std.specs.Ordering.{nat_cmp}
 use Rattle.std.specs.Cmp.Lexicographic.{slice_cmp, nat_list_cmp_total}
-use Rattle.std.specs.FinMap.{FinMap, get, insert, empty, keys, find, from_entries, get-empty, get-insert, get-from_entries, same_map, contains_key-keys, slice_cmp-IsAntisymmetric, nat_cmp-IsAntisymmetric}
+use Rattle.std.specs.FinMap.{FinMap, get, insert, empty, get-empty, get-insert, get-from_entries, same_map, slice_cmp-IsAntisymmetric, nat_cmp-IsAntisymmetric}
 use Rattle.std.proofs.lemmas.Bool.{or_cases, or_left, or_right, cases_Bool, both_ways, false≢true, cond-true, cond-false}
 use Rattle.std.proofs.lemmas.List.Folds.{list_any-append}
 use Rattle.std.proofs.lemmas.Map.Text.{is_eq-slice_cmp}
@@ -15,10 +15,11 @@ use Rattle.mt_files.specs.Edges.{dependencies_of}
 use Rattle.mt_tokens.specs.Transform.{transformed}
 use Rattle.mt_files.specs.Edges.{edges, kind_of}
 use Rattle.mt_files.specs.Reach.{ends, reach}
-use Rattle.mt_files.specs.Fresh.{ascending, members}
+use Rattle.mt_files.specs.Fresh.{members}
 use Rattle.mt_fresh.specs.Rows.{row, rows_of}
 use Rattle.mt_fresh.specs.declared.rows.Row.{Row}
-use Rattle.mt_files.proofs.Reaches.{Has, has_self, has_head, has_flat_map, has_filter, filter_has, flat_map_has, same_path, end_is_reached, reached_is_end, has_key}
+use Rattle.mt_files.proofs.Reaches.{Has, has_self, has_head, has_flat_map, has_filter, filter_has, flat_map_has, same_path, end_is_reached, reached_is_end}
+use Rattle.mt_files.proofs.Unions.{find_made, has_ascending}
 
 abbrev pub RowMap : Type 0
 RowMap = FinMap (slice_cmp nat_cmp) Row
@@ -141,26 +142,6 @@ explores_step files entries rows stack p h =
         | inr old ↦ known_more rows stack (edges files p) p q (row files p) (h.followed a q old f)
       ];
     }
-
-find_made : {X : Type 0} (f : List ℕ → X) (xs : List (List ℕ)) (q : List ℕ) → find (slice_cmp nat_cmp) q (map (λ p. (p, f p)) xs) ≡ cond (list_any (bytes_eq q) xs) (Some (f q)) None
-find_made f [] q = refl
-find_made f (x ∷ xs) q = elim (cases_Bool (bytes_eq q x)) [
-  | inl e ↦ ap (λ b. cond b (Some (f x)) (find (slice_cmp nat_cmp) q (map (λ p. (p, f p)) xs))) (is_eq-slice_cmp q x ∙ e)
-      ∙ ap (λ z. Some (f z)) (sym (same_path q x e))
-      ∙ sym (cond-true (bytes_eq q x || list_any (bytes_eq q) xs) (Some (f q)) None (or_left (bytes_eq q x) (list_any (bytes_eq q) xs) e))
-  | inr e ↦ ap (λ b. cond b (Some (f x)) (find (slice_cmp nat_cmp) q (map (λ p. (p, f p)) xs))) (is_eq-slice_cmp q x ∙ e)
-      ∙ find_made f xs q ∙ ap (λ b. cond (b || list_any (bytes_eq q) xs) (Some (f q)) None) (sym e)
-]
-
-some_cond : {X : Type 0} (b : Bool) (x : X) → is_some (cond b (Some x) None) ≡ b
-some_cond true x = refl
-some_cond false x = refl
-
--- the same paths, ascending
-pub has_ascending : (xs : List (List ℕ)) (q : List ℕ) → list_any (bytes_eq q) (ascending xs) ≡ list_any (bytes_eq q) xs
-has_ascending xs q =
-    let m = from_entries {R = slice_cmp nat_cmp} (map (λ p. (p, p)) xs) in
-    sym (has_key q (keys m)) ∙ sym (contains_key-keys m q) ∙ ap is_some (get-from_entries nat_list_cmp_total (map (λ p. (p, p)) xs) q ∙ find_made (λ p. p) xs q) ∙ some_cond (list_any (bytes_eq q) xs) q
 
 -- with an empty stack each end of a walk has its row
 known_now : (rows : RowMap) (q : List ℕ) → Known rows [] q → is_some (get rows q) ≡ true

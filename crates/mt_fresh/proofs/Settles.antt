@@ -34,7 +34,8 @@ use Rattle.mt_fresh.specs.declared.mt_transform.Output.{Output}
 use Rattle.mt_files.specs.declared.build_fault.BuildFault.{BuildFault}
 use Rattle.mt_files.specs.declared.build_fault.BuildFault.TheVariants.{EntryMissing, Source}
 use Rattle.mt_files.proofs.Reaches.{Has, has_key, has_filter, filter_has, end_is_reached, reached_is_end, end_is_source, same_path, has_self}
-use Rattle.mt_fresh.proofs.Explores.{has_ascending, append_right}
+use Rattle.mt_files.proofs.Unions.{has_ascending}
+use Rattle.mt_fresh.proofs.Explores.{append_right}
 use Rattle.mt_io.proofs.Tables.{entries_table, keys_sorted}
 
 -- a path without faults has a module, and its row is that; else its row is the first fault
