@@ -24,6 +24,7 @@ use Rattle.mt_fresh.specs.Output.{output_of}
 use Rattle.mt_fresh.specs.declared.graph.Found.{Found}
 use Rattle.mt_files.proofs.Unions.{has_ascending}
 use Rattle.mt_fresh.proofs.Explores.{append_left}
+use Rattle.mt_fresh.proofs.Targets.{first_none, rest_none}
 use Rattle.mt_revision.specs.Numberings.{extended, has_path, with_new}
 
 -- ---- a graph that was found
@@ -72,14 +73,6 @@ graph_files files entries graph h path has =
     module_file files path (found_module files (members files entries) path found)
 
 -- ---- the entries are files
-
-first_none : {Y : Type 0} (xs ys : List Y) → xs ++ ys ≡ [] → xs ≡ []
-first_none [] ys h = refl
-first_none (x ∷ xs) ys h = absurd (cc)
-
-rest_none : {Y : Type 0} (xs ys : List Y) → xs ++ ys ≡ [] → ys ≡ []
-rest_none [] ys h = h
-rest_none (x ∷ xs) ys h = absurd (cc)
 
 none_at : {Y : Type 0} (f : List ℕ → List Y) (ps : List (List ℕ)) (q : List ℕ) → flat_map f ps ≡ [] → Has ps q → f q ≡ []
 none_at f [] q h k = absurd (cc)

@@ -9,3 +9,5 @@ pub mod Writes
 pub mod Under
 pub mod Holds
 pub mod Bundles
+pub mod Edges
+pub mod Leads

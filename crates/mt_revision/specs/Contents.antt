@@ -1,5 +1,5 @@
 -- What a revision has of a graph under a numbering.
-use Rattle.std.specs.Prelude.{ℕ, Bool, List, [], ◌++◌, Option, length, map}
+use Rattle.std.specs.Prelude.{ℕ, Bool, List, [], ◌++◌, Option, None, length, map}
 use Rattle.std.specs.List.{filter_map, flat_map, range_with_len, slice_get}
 use Rattle.std.specs.Option.{option_and_then, option_map, option_map_or}
 use Rattle.std.specs.FinMap.{from_entries, get}
@@ -20,6 +20,15 @@ slot_in numbering path = slot.Module (number_in numbering path)
 -- a module of a graph, with the numbers of its dependencies as its slots
 abbrev pub module_in : List (List ℕ) → List ℕ → Found → Module
 module_in numbering path found = record { path = path; output = found.output; slots = map (slot_in numbering) found.targets }
+
+-- the path that a slot leads to
+abbrev pub path_under : List (List ℕ) → Slot → Option (List ℕ)
+path_under numbering (slot.Module number) = slice_get numbering number
+path_under numbering slot.Empty = None
+
+-- the paths that the slots of a module lead to, in their order
+abbrev pub paths_under : List (List ℕ) → Module → List (List ℕ)
+paths_under numbering m = filter_map (path_under numbering) m.slots
 
 -- the module under a number: that of the path with this number, if the graph has it
 abbrev pub module_under : List (List ℕ) → GraphMap → ℕ → Option Module

@@ -1,5 +1,6 @@
 -- What is held of a bundle, and how two such differ.
-use Rattle.std.specs.Prelude.{ℕ, not, ◌&&◌, ◌++◌, List, length, map, filter}
+use Rattle.std.specs.Prelude.{ℕ, Bool, not, nat_eq, ◌&&◌, ◌++◌, List, length, map, filter}
+use Rattle.std.specs.List.{list_all, list_any}
 use Rattle.std.specs.Ordering.{nat_cmp}
 use Rattle.std.specs.FinMap.{contains_key, entries, from_entries, get, keys}
 use Rattle.mt_revision.specs.Texts.{Texts, differs}
@@ -26,6 +27,14 @@ delta a b = record {
   modified = filter (λ e. contains_key a e.0 && differs (get a e.0) (get b e.0)) (entries b);
   deleted = filter (λ n. not (contains_key b n)) (keys a);
 }
+
+-- whether a delta fits what is held: it adds no number that is held, and modifies and deletes none that isn't
+abbrev pub fits : Texts → Delta → Bool
+fits held d = list_all (λ e. not (contains_key held e.0)) d.added && (list_all (λ e. contains_key held e.0) d.modified && list_all (contains_key held) d.deleted)
+
+-- what is held once a delta is applied: its texts, and where it has none under a number, those from before that it doesn't delete
+abbrev pub applied : Texts → Delta → Texts
+applied held d = from_entries (d.added ++ (d.modified ++ filter (λ e. not (list_any (nat_eq e.0) d.deleted)) (entries held)))
 
 -- how long the lists of a delta are
 abbrev pub lengths_of : Delta → DeltaLengths

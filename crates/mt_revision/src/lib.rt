@@ -4,6 +4,7 @@
 mod delta_lengths;
 mod deltas;
 mod held_map;
+mod law;
 mod lists;
 mod modules;
 mod numbering;
@@ -16,6 +17,7 @@ mod write;
 
 pub use delta_lengths::DeltaLengths;
 pub use held_map::{HeldMap, held};
+pub use law::{law_of_deltas, law_of_slots};
 pub use lists::{NumberList, SlotList};
 pub use modules::{Module, ModuleMap};
 pub use numbering::Numbering;
