@@ -11,3 +11,4 @@ pub mod Quoting
 pub mod Sizes
 pub mod Targets
 pub mod Firsts
+pub mod Encodings

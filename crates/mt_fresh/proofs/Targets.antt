@@ -145,7 +145,7 @@ find_targets q (e ∷ es) = find_target q e es (eq_by_cmp (slice_cmp nat_cmp) q 
 get_targets : (graph : GraphMap) (q : List ℕ) → get (targets_in graph) q ≡ option_map (λ (f : Found). f.targets) (get graph q)
 get_targets graph q = get-from_entries nat_list_cmp_total (map row (entries graph)) q ∙ find_targets q (entries graph) ∙ ap (option_map (λ (f : Found). f.targets)) (sym (get-entries graph q))
 
-there_by : {X : Type 0} (b : Bool) (x y : X) → cond b (Some x) None ≡ Some y → (b ≡ true) × (x ≡ y)
+pub there_by : {X : Type 0} (b : Bool) (x y : X) → cond b (Some x) None ≡ Some y → (b ≡ true) × (x ≡ y)
 there_by true x y h = (refl, ap (λ o. option_map_or (λ z. z) o x) h)
 there_by false x y h = absurd (cc)
 

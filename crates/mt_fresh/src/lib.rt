@@ -16,7 +16,7 @@ mod write_tests;
 
 pub use fault_texts::fault_text;
 pub use graph::{Found, Graph, PathList};
-pub use law::law_of_graphs;
+pub use law::{law_of_bodies, law_of_graphs};
 pub use mt_deps::{Dep, DepFault, DepList, Use, deps};
 pub use mt_files::BuildFault;
 pub use mt_resolve::{Resolution, Target, resolve};

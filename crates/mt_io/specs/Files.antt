@@ -1,9 +1,8 @@
 -- What a folder holds: the bytes of each file by the text of its path, and the children of a folder in it.
-use Rattle.std.specs.Prelude.{ℕ, Bool, List, [], ◌∷◌, ◌++◌, ◌≡◌, ◌≢◌, ◌&&◌, drop, length, Option, Some, None, if◌then◌else◌, ◌==◌, nat_lt}
+use Rattle.std.specs.Prelude.{ℕ, Bool, List, ◌≡◌, ◌≢◌, ◌&&◌, drop, length, Option, Some, None, if◌then◌else◌, ◌==◌, nat_lt}
 use Rattle.std.specs.Option.{IfSome, option_map}
 use Rattle.std.specs.List.{All, AllPairs, Any, Contains, starts_with, before_first, position_or_len}
 use Rattle.std.specs.Bool.{nat_eq}
-use Rattle.std.specs.Str.{bytes_eq}
 use Rattle.std.specs.Ordering.{nat_cmp}
 use Rattle.std.specs.Cmp.Lexicographic.{slice_cmp}
 use Rattle.std.specs.FinMap.{FinMap, get, keys}

@@ -1,9 +1,9 @@
 -- The slots of a module lead to the paths that it requires.
-use Rattle.std.proofs.Common.{inl, inr, ◌≡◌, ◌∙◌, ◌+◌, ◌&&◌, ◌||◌, ℕ, suc, arith, Bool, true, false, not, cond, List, [], ◌∷◌, map, filter, slice_get, Some, Ok, refl, ap, sym}
+use Rattle.std.proofs.Common.{inl, inr, ◌≡◌, ◌∙◌, ◌+◌, ◌||◌, ℕ, suc, arith, Bool, true, false, not, cond, List, [], ◌∷◌, map, filter, slice_get, Some, Ok, refl, ap, sym}
 use Rattle.std.specs.List.{list_all, list_any, filter_map, cons_option}
 use Rattle.std.specs.Str.{bytes_eq}
 use Rattle.std.specs.FinMap.{get, keys}
-use Rattle.std.proofs.lemmas.Bool.{cases_Bool}
+use Rattle.std.proofs.lemmas.Bool.{and_parts, cases_Bool}
 use Rattle.mt_files.specs.Edges.{edges}
 use Rattle.mt_files.specs.Snapshots.{Snapshot}
 use Rattle.mt_files.proofs.Reaches.{Has, all_at, filter_has, same_path}
@@ -28,20 +28,12 @@ pub number_at : (paths : List (List ℕ)) (path : List ℕ) → has_path paths p
 number_at [] path h = absurd (cc)
 number_at (x ∷ xs) path h = number_by x xs path (bytes_eq path x) refl h (number_at xs path)
 
-first_true : (a b : Bool) → (a && b) ≡ true → a ≡ true
-first_true true b h = refl
-first_true false b h = h
-
-second_true : (a b : Bool) → (a && b) ≡ true → b ≡ true
-second_true true b h = h
-second_true false b h = absurd (cc)
-
 -- slots lead back to the paths that they were made of
 slots_lead : (numbering targets : List (List ℕ)) → list_all (has_path numbering) targets ≡ true → filter_map (path_under numbering) (map (slot_in numbering) targets) ≡ targets
 slots_lead numbering [] h = refl
 slots_lead numbering (t ∷ ts) h =
-    ap (λ o. cons_option o (filter_map (path_under numbering) (map (slot_in numbering) ts))) (number_at numbering t (first_true (has_path numbering t) (list_all (has_path numbering) ts) h))
-    ∙ ap (λ z. t ∷ z) (slots_lead numbering ts (second_true (has_path numbering t) (list_all (has_path numbering) ts) h))
+    let p = and_parts (has_path numbering t) (list_all (has_path numbering) ts) h in
+    ap (λ o. cons_option o (filter_map (path_under numbering) (map (slot_in numbering) ts))) (number_at numbering t p.0) ∙ ap (λ z. t ∷ z) (slots_lead numbering ts p.1)
 
 -- paths that are added are there
 new_has : (xs ys : List (List ℕ)) (q : List ℕ) → Has ys q → Has (with_new xs ys) q

@@ -6,6 +6,7 @@ use Rattle.std.specs.Str.{bytes_eq}
 use Rattle.std.specs.Ordering.{nat_cmp, eq_by_cmp}
 use Rattle.std.specs.Cmp.{nat_cmp_total, unsigned_tied}
 use Rattle.std.specs.FinMap.{contains_key, entries, find, get, get-entries, get-from_entries, keys, nat_cmp-IsAntisymmetric, same_map}
+use Rattle.std.proofs.lemmas.Bool.{and_parts}
 use Rattle.std.proofs.lemmas.Cmp.{nat_eq_equiv}
 use Rattle.mt_files.proofs.Reaches.{same_path}
 use Rattle.mt_revision.specs.Texts.{Texts, differs}
@@ -101,10 +102,6 @@ all_there p q (k ∷ ks) h =
     kept_pass p q k ks (q k) refl (λ e. h k (ap (λ b. b || list_any (nat_eq k) ks) (nat_eq_equiv.refl k)))
     (all_there p q ks (λ n e. h n (ap (λ b. nat_eq n k || b) e ∙ or_true (nat_eq n k))))
 
-first_holds : (a b : Bool) → (a && b) ≡ true → a ≡ true
-first_holds true b h = refl
-first_holds false b h = h
-
 all_hold : (a b c : Bool) → a ≡ true → b ≡ true → c ≡ true → (a && (b && c)) ≡ true
 all_hold a b c h k l = ap (λ x. x && (b && c)) h ∙ ap (λ x. x && c) k ∙ l
 
@@ -113,5 +110,5 @@ delta_fits a b =
     let d = delta a b in
     all_hold (list_all (λ (e : ℕ × List ℕ). not (contains_key a e.0)) d.added) (list_all (λ (e : ℕ × List ℕ). contains_key a e.0) d.modified) (list_all (contains_key a) d.deleted)
     (all_pass (λ (e : ℕ × List ℕ). not (contains_key a e.0)) (λ (e : ℕ × List ℕ). not (contains_key a e.0)) (λ e h. h) (entries b))
-    (all_pass (λ (e : ℕ × List ℕ). contains_key a e.0) (λ (e : ℕ × List ℕ). contains_key a e.0 && differs (get a e.0) (get b e.0)) (λ e h. first_holds (contains_key a e.0) (differs (get a e.0) (get b e.0)) h) (entries b))
+    (all_pass (λ (e : ℕ × List ℕ). contains_key a e.0) (λ (e : ℕ × List ℕ). contains_key a e.0 && differs (get a e.0) (get b e.0)) (λ e h. (and_parts (contains_key a e.0) (differs (get a e.0) (get b e.0)) h).0) (entries b))
     (all_there (contains_key a) (λ k. not (contains_key b k)) (keys a) (λ k h. has_number a k ∙ h))

@@ -3,13 +3,14 @@ use Rattle.std.proofs.Common.{◌≡◌, ◌<◌, ◌≤◌, ◌^◌, ◌==◌, 
 use Rattle.std.specs.Char.{is_ascii_digit}
 use Rattle.std.specs.Fmt.{decimal}
 use Rattle.std.specs.List.{flat_map, list_all}
-use Rattle.std.specs.Str.{IsAscii, IsUtf8, is_utf8}
-use Rattle.std.proofs.lemmas.Bool.{and_parts, and_from, not-true, ltb-false, ltb-true, ne_eqb}
+use Rattle.std.specs.Str.{IsUtf8, is_utf8}
+use Rattle.std.proofs.lemmas.Bool.{and_parts, and_from, not-true, ltb-false, ne_eqb}
 use Rattle.std.proofs.lemmas.Bool.Decides.{nat_tests}
 use Rattle.std.proofs.lemmas.Fmt.{digits_decimal, IsAscii-decimal, length-decimal-le}
 use Rattle.std.proofs.lemmas.List.Folds.{list_all-append}
 use Rattle.std.proofs.lemmas.Str.{IsUtf8-append, IsUtf8-from_ascii, IsUtf8-from_is_utf8, is_utf8-from_IsUtf8}
 use Rattle.std.proofs.lemmas.Str.Ascii.{IsAscii-cons, IsAscii-nil}
+use Rattle.mt_tokens.proofs.Ascii.{word_ascii}
 use Rattle.mt_path.specs.Names.{is_root}
 use Rattle.mt_path.specs.Parse.{IsPath}
 use Rattle.mt_path.specs.Segments.{is_segment, is_segment_byte, segments_of, text_of}
@@ -132,12 +133,6 @@ put_line_order path n h root small =
 del_line_order : (path : List ℕ) → IsPathText path → is_root path ≡ false → order_of (codes "del " ++ path) ≡ Some (order.Whole (Del path))
 del_line_order path h root =
     utf8_order (codes "del " ++ path) (del_utf8 path h.utf8) ∙ rw (path_found path h.path root) refl
-
-word_ascii : (bs : List ℕ) → list_all (λ b. ltb b 128) bs ≡ true → IsAscii bs
-word_ascii [] h = IsAscii-nil
-word_ascii (b ∷ bs) h =
-    let p = and_parts (ltb b 128) (list_all (λ x. ltb x 128) bs) h in
-    IsAscii-cons b bs (ltb-true b 128 p.0) (word_ascii bs p.1)
 
 word_utf8 : (bs : List ℕ) → list_all (λ b. ltb b 128) bs ≡ true → is_utf8 bs ≡ true
 word_utf8 bs h = is_utf8-from_IsUtf8 bs (IsUtf8-from_ascii bs (word_ascii bs h))

@@ -6,3 +6,4 @@ pub mod Coverings
 pub mod Walks
 pub mod Extents
 pub mod Laws
+pub mod Ascii

@@ -1,5 +1,4 @@
 use Rattle.std.proofs.Common.{rules, refl, subst, sym, ◌∙◌, append-nil}
-use Rattle.mt_path.specs.Children.{prefix_of}
 use Rattle.mt_io.specs.Files.{IsChildrenOf}
 use Rattle.mt_io.proofs.Tables.{keys_table}
 use Rattle.mt_io.proofs.Children.{children_found}
