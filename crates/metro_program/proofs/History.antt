@@ -4,6 +4,7 @@ use Rattle.std.specs.List.{fold}
 use Rattle.std.specs.Option.{option_map_or}
 use Rattle.std.specs.FinMap.{keys}
 use Rattle.std.proofs.lemmas.List.Sums.{fold-append}
+use Rattle.std.proofs.lemmas.List.Elements.{filter_map-append}
 use Rattle.mt_io.specs.Files.{Files}
 use Rattle.mt_files.specs.Snapshots.{Snapshot}
 use Rattle.mt_files.specs.Crawl.{entry_of}
@@ -24,61 +25,62 @@ use Rattle.metro_program.specs.declared.ending.Ending.{Ending}
 use Rattle.metro_program.specs.declared.ending.Ending.TheVariants.{Done}
 use Rattle.metro_program.specs.Reports.{same_line}
 use Rattle.metro_program.specs.Replay.{Standing, answered, build_after, built, changed, ended, fresh_build, graph_build, in_silence, moved, opened, published_in, rescanned_by, then_changed, with_change}
-use Rattle.metro_program.specs.History.{IsFresh, KeepsNumbers, Logged, begun, build_entry, command_entry, fresh_entry, graph_entry, led, logged_after, moved_by, then_moved, with_entry}
+use Rattle.metro_program.specs.History.{Answer, Built, IsFresh, KeepsNumbers, Same, Told, answer_after, begun, build_answer, command_answer, fresh_entry, graph_entry, led, log_of, logged, moved_by, then_moved}
 
 -- ---- what changes and builds keep, commands keep
 
 -- a change and a build keep this
-record IsKept (entries : List (List ℕ)) (P : Logged → Type 0) : Type 0 where
-  change : (l : Logged) (c : Change) → P l → P (record { standing = with_change l.standing c; log = l.log })
-  build : (l : Logged) → P l → P (record { standing = (built entries l.standing).standing; log = with_entry l.log (build_entry entries l.standing) })
+pub record IsKept (entries : List (List ℕ)) (P : Told → Type 0) : Type 0 where
+  pub change : (t : Told) (c : Change) → P t → P (record { standing = with_change t.standing c; answers = t.answers })
+  pub build : (t : Told) → P t → P (record { standing = (built entries t.standing).standing; answers = t.answers ++ build_answer entries t.standing ∷ [] })
 
-abbrev HoldsAt : (Logged → Type 0) → List LogEntry → Result Standing Ending → Type 0
-HoldsAt P log (Ok s) = P (record { standing = s; log = log })
-HoldsAt P log (Err ending) = Unit
+abbrev HoldsAt : (Told → Type 0) → List Answer → Result Standing Ending → Type 0
+HoldsAt P answers (Ok s) = P (record { standing = s; answers = answers })
+HoldsAt P answers (Err ending) = Unit
 
-abbrev Holds : (Logged → Type 0) → Result Logged Ending → Type 0
-Holds P (Ok l) = P l
+abbrev pub Holds : (Told → Type 0) → Result Told Ending → Type 0
+Holds P (Ok t) = P t
 Holds P (Err ending) = Unit
 
-module _ (entries : List (List ℕ)) (P : Logged → Type 0) (kept : IsKept entries P) where
-  answer_holds : (s : Standing) (log : List LogEntry) (c : Change) (answer : Result (Unit {0}) JournalFault) → P (record { standing = s; log = log }) → HoldsAt P log (answered s c answer)
-  answer_holds s log c (Ok room) h = kept.change (record { standing = s; log = log }) c h
-  answer_holds s log c (Err fault) h = tt
+module _ (entries : List (List ℕ)) (P : Told → Type 0) (kept : IsKept entries P) where
+  push_holds : (s : Standing) (answers : List Answer) (c : Change) (answer : Result (Unit {0}) JournalFault) → P (record { standing = s; answers = answers }) → HoldsAt P answers (answered s c answer)
+  push_holds s answers c (Ok room) h = kept.change (record { standing = s; answers = answers }) c h
+  push_holds s answers c (Err fault) h = tt
 
-  change_holds : (log : List LogEntry) (m : Result Standing Ending) (c : Change) → HoldsAt P log m → HoldsAt P log (then_changed m c)
-  change_holds log (Ok s) c h = answer_holds s log c (push_answer s.journal c) h
-  change_holds log (Err ending) c h = tt
+  change_holds : (answers : List Answer) (m : Result Standing Ending) (c : Change) → HoldsAt P answers m → HoldsAt P answers (then_changed m c)
+  change_holds answers (Ok s) c h = push_holds s answers c (push_answer s.journal c) h
+  change_holds answers (Err ending) c h = tt
 
-  changes_hold : (log : List LogEntry) (m : Result Standing Ending) (cs : List Change) → HoldsAt P log m → HoldsAt P log (fold then_changed m cs)
-  changes_hold log m [] h = h
-  changes_hold log m (c ∷ cs) h = changes_hold log (then_changed m c) cs (change_holds log m c h)
+  changes_hold : (answers : List Answer) (m : Result Standing Ending) (cs : List Change) → HoldsAt P answers m → HoldsAt P answers (fold then_changed m cs)
+  changes_hold answers m [] h = h
+  changes_hold answers m (c ∷ cs) h = changes_hold answers (then_changed m c) cs (change_holds answers m c h)
 
-  rescan_holds : (s : Standing) (log : List LogEntry) (found : Result (List Change) CrawlFault) → P (record { standing = s; log = log }) → HoldsAt P log (rescanned_by s found)
-  rescan_holds s log (Ok cs) h = changes_hold log (Ok s) cs h
-  rescan_holds s log (Err fault) h = tt
+  rescan_holds : (s : Standing) (answers : List Answer) (found : Result (List Change) CrawlFault) → P (record { standing = s; answers = answers }) → HoldsAt P answers (rescanned_by s found)
+  rescan_holds s answers (Ok cs) h = changes_hold answers (Ok s) cs h
+  rescan_holds s answers (Err fault) h = tt
 
-  silence_holds : (log : List LogEntry) (m : Result Standing Ending) → HoldsAt P log m → Holds P (led log (in_silence m))
-  silence_holds log (Ok s) h = h
-  silence_holds log (Err ending) h = tt
+  silence_holds : (answers : List Answer) (m : Result Standing Ending) → HoldsAt P answers m → Holds P (led (answers ++ []) (in_silence m))
+  silence_holds answers (Ok s) h = subst (λ list. P (record { standing = s; answers = list })) (sym (append-nil answers)) h
+  silence_holds answers (Err ending) h = tt
 
-  command_holds : (tree : Files) (l : Logged) (command : Command) → P l → Holds P (led (with_entry l.log (command_entry entries l.standing command)) (moved tree entries l.standing command))
-  command_holds tree l (Put path bytes) h = let c = change.Put path (entry_of path bytes) in silence_holds l.log (changed l.standing c) (change_holds l.log (Ok l.standing) c h)
-  command_holds tree l (Del path) h = silence_holds l.log (changed l.standing (change.Del path)) (change_holds l.log (Ok l.standing) (change.Del path) h)
-  command_holds tree l Rescan h = silence_holds l.log (rescanned_by l.standing (rescanned l.standing.files tree)) (rescan_holds l.standing l.log (rescanned l.standing.files tree) h)
-  command_holds tree l Build h = kept.build l h
-  command_holds tree l End h = tt
+  -- so do commands
+  pub command_holds : (tree : Files) (t : Told) (command : Command) → P t → Holds P (led (t.answers ++ command_answer entries t.standing command) (moved tree entries t.standing command))
+  command_holds tree t (Put path bytes) h = let c = change.Put path (entry_of path bytes) in silence_holds t.answers (changed t.standing c) (change_holds t.answers (Ok t.standing) c h)
+  command_holds tree t (Del path) h = silence_holds t.answers (changed t.standing (change.Del path)) (change_holds t.answers (Ok t.standing) (change.Del path) h)
+  command_holds tree t Rescan h = silence_holds t.answers (rescanned_by t.standing (rescanned t.standing.files tree)) (rescan_holds t.standing t.answers (rescanned t.standing.files tree) h)
+  command_holds tree t Build h = kept.build t h
+  command_holds tree t End h = tt
 
-  next_holds : (tree : Files) (m : Result Logged Ending) (command : Command) → Holds P m → Holds P (then_moved tree entries m command)
-  next_holds tree (Ok l) command h = command_holds tree l command h
+  next_holds : (tree : Files) (m : Result Told Ending) (command : Command) → Holds P m → Holds P (then_moved tree entries m command)
+  next_holds tree (Ok t) command h = command_holds tree t command h
   next_holds tree (Err ending) command h = tt
 
-  all_hold : (tree : Files) (m : Result Logged Ending) (commands : List Command) → Holds P m → Holds P (fold (then_moved tree entries) m commands)
+  all_hold : (tree : Files) (m : Result Told Ending) (commands : List Command) → Holds P m → Holds P (fold (then_moved tree entries) m commands)
   all_hold tree m [] h = h
   all_hold tree m (command ∷ commands) h = all_hold tree (then_moved tree entries m command) commands (next_holds tree m command h)
 
-  holds_after : (tree : Files) (l now : Logged) (commands : List Command) → P l → moved_by tree entries l commands ≡ Ok now → P now
-  holds_after tree l now commands h e = subst (Holds P) e (all_hold tree (Ok l) commands h)
+  holds_after : (tree : Files) (t now : Told) (commands : List Command) → P t → moved_by tree entries t commands ≡ Ok now → P now
+  holds_after tree t now commands h e = subst (Holds P) e (all_hold tree (Ok t) commands h)
 
 -- ---- more of a journal, and more of a log
 
@@ -131,90 +133,98 @@ module _ (files : Snapshot) (entries : List (List ℕ)) where
 
   -- ---- a replay keeps its log legal
 
-  fresh_change : (l : Logged) (c : Change) → IsFresh files entries l → IsFresh files entries (record { standing = with_change l.standing c; log = l.log })
-  fresh_change l c h = record {
-    changed = ap (λ f. stepped f c) h.changed ∙ sym (fold-append stepped files l.standing.journal (c ∷ []));
+  fresh_change : (t : Told) (c : Change) → IsFresh files entries t → IsFresh files entries (record { standing = with_change t.standing c; answers = t.answers })
+  fresh_change t c h = record {
+    changed = ap (λ f. stepped f c) h.changed ∙ sym (fold-append stepped files t.standing.journal (c ∷ []));
     reached = h.reached;
-    legal = legal_longer l.standing.journal (c ∷ []) unlogged l.log h.reached h.legal;
+    legal = legal_longer t.standing.journal (c ∷ []) unlogged (log_of t.answers) h.reached h.legal;
     latest = h.latest;
     numbered = h.numbered;
-    counted = longer_count l.standing.journal (c ∷ []) h.reached.count h.counted;
+    counted = longer_count t.standing.journal (c ∷ []) h.reached.count h.counted;
   }
 
   -- the files that all accepted changes lead to
-  all_files : (l : Logged) → IsFresh files entries l → files_at files l.standing.journal (length l.standing.journal) ≡ l.standing.files
-  all_files l h = ap (stepped_by files) (take_whole l.standing.journal) ∙ sym h.changed
+  all_files : (t : Told) → IsFresh files entries t → files_at files t.standing.journal (length t.standing.journal) ≡ t.standing.files
+  all_files t h = ap (stepped_by files) (take_whole t.standing.journal) ∙ sym h.changed
 
-  abbrev after_graph : Logged → GraphMap → List (List ℕ) → Reached
-  after_graph l graph numbering = record { latest = Some (published_in entries l.standing numbering graph); count = length l.standing.journal; numbering = numbering }
+  abbrev after_graph : Told → GraphMap → List (List ℕ) → Reached
+  after_graph t graph numbering = record { latest = Some (published_in entries t.standing numbering graph); count = length t.standing.journal; numbering = numbering }
 
   next_revised :
-      (l : Logged) (graph : GraphMap) (numbering : List (List ℕ)) (h : IsFresh files entries l) → fresh_graph l.standing.files entries ≡ Ok graph → numbering ≡ extended h.reached.numbering entries (keys graph)
-      → IsRevised files entries l.standing.journal h.reached (published_in entries l.standing numbering graph) (after_graph l graph numbering)
-  next_revised l graph numbering h fresh is = record {
+      (t : Told) (graph : GraphMap) (numbering : List (List ℕ)) (h : IsFresh files entries t) → fresh_graph t.standing.files entries ≡ Ok graph → numbering ≡ extended h.reached.numbering entries (keys graph)
+      → IsRevised files entries t.standing.journal h.reached (published_in entries t.standing numbering graph) (after_graph t graph numbering)
+  next_revised t graph numbering h fresh is = record {
     later = h.counted;
     counted = omega arith;
     number = ap number_after h.latest;
     graph = graph;
-    fresh = ap (λ f. fresh_graph f entries) (all_files l h) ∙ fresh;
+    fresh = ap (λ f. fresh_graph f entries) (all_files t h) ∙ fresh;
     held = refl;
     bundle = refl;
-    reached = ap (λ n. record { latest = Some (published_in entries l.standing numbering graph); count = length l.standing.journal; numbering = n }) is;
+    reached = ap (λ n. record { latest = Some (published_in entries t.standing numbering graph); count = length t.standing.journal; numbering = n }) is;
   }
 
+  -- the log with one more build
+  log_next :
+      (journal : List Change) (answers : List Answer) (between : Reached) (entry : LogEntry) (now : Reached) → IsLegal files entries journal unlogged (log_of answers) between → IsNext files entries journal between entry now
+      → IsLegal files entries journal unlogged (log_of (answers ++ Built entry ∷ [])) now
+  log_next journal answers between entry now h next = subst (λ log. IsLegal files entries journal unlogged log now) (sym (filter_map-append logged answers (Built entry ∷ []))) (legal_next journal unlogged (log_of answers) between entry now h next)
+
   graph_fresh :
-      (l : Logged) (g : Result GraphMap BuildFault) → fresh_graph l.standing.files entries ≡ g → IsFresh files entries l
-      → IsFresh files entries (record { standing = (graph_build entries l.standing g).standing; log = l.log ++ graph_entry entries l.standing g ∷ [] })
-  graph_fresh l (Ok graph) fresh h =
-      let numbering = extended l.standing.numbering entries (keys graph) in
+      (t : Told) (g : Result GraphMap BuildFault) → fresh_graph t.standing.files entries ≡ g → IsFresh files entries t
+      → IsFresh files entries (record { standing = (graph_build entries t.standing g).standing; answers = t.answers ++ Built (graph_entry entries t.standing g) ∷ [] })
+  graph_fresh t (Ok graph) fresh h =
+      let numbering = extended t.standing.numbering entries (keys graph) in
       record {
         changed = h.changed;
-        reached = after_graph l graph numbering;
-        legal = legal_next l.standing.journal unlogged l.log h.reached (Revised (published_in entries l.standing numbering graph)) (after_graph l graph numbering) h.legal (next_revised l graph numbering h fresh (ap (λ n. extended n entries (keys graph)) h.numbered));
+        reached = after_graph t graph numbering;
+        legal = log_next t.standing.journal t.answers h.reached (Revised (published_in entries t.standing numbering graph)) (after_graph t graph numbering) h.legal (next_revised t graph numbering h fresh (ap (λ n. extended n entries (keys graph)) h.numbered));
         latest = refl;
         numbered = refl;
         counted = omega arith;
       }
-  graph_fresh l (Err fault) fresh h =
-      let now : Reached = record { latest = h.reached.latest; count = length l.standing.journal; numbering = h.reached.numbering } in
-      let next : IsDenied files entries l.standing.journal h.reached (length l.standing.journal) fault now = record { later = h.counted; counted = omega arith; first = ap (λ f. fresh_graph f entries) (all_files l h) ∙ fresh; reached = refl } in
+  graph_fresh t (Err fault) fresh h =
+      let now : Reached = record { latest = h.reached.latest; count = length t.standing.journal; numbering = h.reached.numbering } in
+      let next : IsDenied files entries t.standing.journal h.reached (length t.standing.journal) fault now = record { later = h.counted; counted = omega arith; first = ap (λ f. fresh_graph f entries) (all_files t h) ∙ fresh; reached = refl } in
       record {
         changed = h.changed;
         reached = now;
-        legal = legal_next l.standing.journal unlogged l.log h.reached (Denied (length l.standing.journal) fault) now h.legal next;
+        legal = log_next t.standing.journal t.answers h.reached (Denied (length t.standing.journal) fault) now h.legal next;
         latest = h.latest;
         numbered = h.numbered;
         counted = omega arith;
       }
 
   -- where nothing is built, nothing is logged
-  same_fresh : (l : Logged) → IsFresh files entries l → IsFresh files entries (record { standing = ended l.standing Done; log = l.log })
-  same_fresh l h = record { changed = h.changed; reached = h.reached; legal = h.legal; latest = h.latest; numbered = h.numbered; counted = h.counted }
+  same_fresh : (t : Told) (number : ℕ) → IsFresh files entries t → IsFresh files entries (record { standing = ended t.standing Done; answers = t.answers ++ Same number ∷ [] })
+  same_fresh t number h =
+      let log : log_of t.answers ≡ log_of (t.answers ++ Same number ∷ []) = sym (filter_map-append logged t.answers (Same number ∷ []) ∙ append-nil (log_of t.answers)) in
+      record { changed = h.changed; reached = h.reached; legal = subst (λ l. IsLegal files entries t.standing.journal unlogged l h.reached) log h.legal; latest = h.latest; numbered = h.numbered; counted = h.counted }
 
   either_fresh :
-      (l : Logged) (last : Published) (counted : Bool) → IsFresh files entries l
-      → IsFresh files entries (record { standing = (if counted then record { standing = ended l.standing Done; bytes = same_line last.number } else fresh_build entries l.standing).standing; log = with_entry l.log (if counted then None else Some (fresh_entry entries l.standing)) })
-  either_fresh l last true h = same_fresh l h
-  either_fresh l last false h = graph_fresh l (fresh_graph l.standing.files entries) refl h
+      (t : Told) (last : Published) (counted : Bool) → IsFresh files entries t
+      → IsFresh files entries (record { standing = (if counted then record { standing = ended t.standing Done; bytes = same_line last.number } else fresh_build entries t.standing).standing; answers = t.answers ++ (if counted then Same last.number else Built (fresh_entry entries t.standing)) ∷ [] })
+  either_fresh t last true h = same_fresh t last.number h
+  either_fresh t last false h = graph_fresh t (fresh_graph t.standing.files entries) refl h
 
   build_fresh :
-      (l : Logged) (latest : Option Published) → IsFresh files entries l
-      → IsFresh files entries (record { standing = (option_map_or (build_after entries l.standing) latest (fresh_build entries l.standing)).standing; log = with_entry l.log (option_map_or (logged_after entries l.standing) latest (Some (fresh_entry entries l.standing))) })
-  build_fresh l None h = graph_fresh l (fresh_graph l.standing.files entries) refl h
-  build_fresh l (Some last) h = either_fresh l last (last.changes == length l.standing.journal) h
+      (t : Told) (latest : Option Published) → IsFresh files entries t
+      → IsFresh files entries (record { standing = (option_map_or (build_after entries t.standing) latest (fresh_build entries t.standing)).standing; answers = t.answers ++ option_map_or (answer_after entries t.standing) latest (Built (fresh_entry entries t.standing)) ∷ [] })
+  build_fresh t None h = graph_fresh t (fresh_graph t.standing.files entries) refl h
+  build_fresh t (Some last) h = either_fresh t last (last.changes == length t.standing.journal) h
 
   kept_fresh : IsKept entries (IsFresh files entries)
-  kept_fresh = record { change = fresh_change; build = λ l h. build_fresh l l.standing.latest h }
+  kept_fresh = record { change = fresh_change; build = λ t h. build_fresh t t.standing.latest h }
 
-  opened_fresh : IsFresh files entries (record { standing = opened files; log = [] })
+  opened_fresh : IsFresh files entries (record { standing = opened files; answers = [] })
   opened_fresh = record { changed = refl; reached = unlogged; legal = refl; latest = refl; numbered = refl; counted = omega arith }
 
   begun_fresh : IsFresh files entries (begun entries files)
-  begun_fresh = graph_fresh (record { standing = opened files; log = [] }) (fresh_graph files entries) refl opened_fresh
+  begun_fresh = graph_fresh (record { standing = opened files; answers = [] }) (fresh_graph files entries) refl opened_fresh
 
   -- wherever the commands of a replay lead, its log is legal
-  pub fresh_history : (tree : Files) (commands : List Command) (l : Logged) → moved_by tree entries (begun entries files) commands ≡ Ok l → IsFresh files entries l
-  fresh_history tree commands l e = holds_after entries (IsFresh files entries) kept_fresh tree (begun entries files) l commands begun_fresh e
+  pub fresh_history : (tree : Files) (commands : List Command) (t : Told) → moved_by tree entries (begun entries files) commands ≡ Ok t → IsFresh files entries t
+  fresh_history tree commands t e = holds_after entries (IsFresh files entries) kept_fresh tree (begun entries files) t commands begun_fresh e
 
 -- ---- numbers are kept
 
@@ -237,9 +247,9 @@ module _ (entries : List (List ℕ)) (start : Standing) where
   build_numbers s None h = graph_numbers s (fresh_graph s.files entries) h
   build_numbers s (Some last) h = either_numbers s last (last.changes == length s.journal) h
 
-  kept_numbers : IsKept entries (λ l. KeepsNumbers start l.standing)
-  kept_numbers = record { change = λ l c h. h; build = λ l h. build_numbers l.standing l.standing.latest h }
+  kept_numbers : IsKept entries (λ t. KeepsNumbers start t.standing)
+  kept_numbers = record { change = λ t c h. h; build = λ t h. build_numbers t.standing t.standing.latest h }
 
 -- wherever commands lead, they keep the numbers
-pub kept_history : (tree : Files) (entries : List (List ℕ)) (before now : Logged) (commands : List Command) → moved_by tree entries before commands ≡ Ok now → KeepsNumbers before.standing now.standing
-kept_history tree entries before now commands e = holds_after entries (λ l. KeepsNumbers before.standing l.standing) (kept_numbers entries before.standing) tree before now commands ([], sym (append-nil before.standing.numbering)) e
+pub kept_history : (tree : Files) (entries : List (List ℕ)) (before now : Told) (commands : List Command) → moved_by tree entries before commands ≡ Ok now → KeepsNumbers before.standing now.standing
+kept_history tree entries before now commands e = holds_after entries (λ t. KeepsNumbers before.standing t.standing) (kept_numbers entries before.standing) tree before now commands ([], sym (append-nil before.standing.numbering)) e

@@ -13,3 +13,4 @@ pub mod Asked
 pub mod Builds
 pub mod Endings
 pub mod History
+pub mod Lines

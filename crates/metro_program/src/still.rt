@@ -1,15 +1,17 @@
 //! The commands that run over objects that are handed in.
-ghost use Rattle.std.specs.Prelude.{◌≡◌, ◌≤◌, ◌⊎◌, ℕ, List, [], true, false, IfOk, IsErr, Ok, Some};
+ghost use Rattle.std.specs.Prelude.{◌≡◌, ◌≤◌, ◌⊎◌, ℕ, List, [], ◌∷◌, true, false, IfOk, IsErr, Ok, Some};
 ghost use Rattle.mt_io.specs.Causes.{Rose};
 ghost use Rattle.mt_io.specs.Told.{Grows, GrowsByPrefix, Reading};
 ghost use Rattle.mt_io.specs.Files.{Files};
+ghost use Rattle.mt_files.specs.Crawl.{crawled};
 ghost use Rattle.mt_files.specs.Snapshots.{Snapshot};
+ghost use Rattle.mt_script.specs.Scripts.{script_of};
 ghost use Rattle.mt_script.specs.declared.command.Command.{Command};
 ghost use Rattle.metro_program.specs.Words.{words_of};
 ghost use Rattle.metro_program.specs.Ending.{IsAnswer, IsAnswered, IsBadWord, status_of, line_of};
 ghost use Rattle.metro_program.specs.Still.{HasScript, IsFaultLine, IsRefusedUnread, first_bundle, reads_script, still};
 ghost use Rattle.metro_program.specs.Runs.{Gave};
-ghost use Rattle.metro_program.specs.History.{IsFresh, KeepsNumbers, Logged, begun, moved_by};
+ghost use Rattle.metro_program.specs.History.{IsFresh, IsReport, KeepsNumbers, Told, begun, moved_by};
 ghost use Rattle.metro_program.specs.Outcomes.{ComesTo, HasEnd, HasFault, HasGraph, HasLimit, HasReason, ScriptRose, ScriptStood, Stood};
 
 use crate::bundle::run_bundle;
@@ -124,10 +126,11 @@ pub fn metro_still<
     ensures line { (tree : Files) (bytes : List ℕ) → F.told folder.old ≡ Some tree → HasScript (words_of words.now) (I.told script.old) bytes → IsAnswered result → Stood (E.count log.old) (E.count log.new) → Grows (E.told log.old) (E.told log.new) (line_of (still words.now tree bytes).ending) }
     ensures fault_line { Stood (E.count log.old) (E.count log.new) → IsFaultLine result (E.told log.old) (E.told log.new) }
 
-    // Wherever the commands of a replay lead, each revision is that of a fresh build of the files that it counts, under
-    // numbers that are kept.
-    ensures fresh { (tree : Files) (files : Snapshot) (entries : List (List ℕ)) (commands : List Command) (l : Logged) → moved_by tree entries (begun entries files) commands ≡ Ok l → IsFresh files entries l }
-    ensures numbers { (tree : Files) (entries : List (List ℕ)) (before now : Logged) (commands : List Command) → moved_by tree entries before commands ≡ Ok now → KeepsNumbers before.standing now.standing }
+    // What a replay writes are the lines of its builds. Wherever its commands lead, each revision is that of a fresh build of
+    // the files that it counts, under numbers that are kept.
+    ensures report { (tree : Files) (files : Snapshot) (entry : List ℕ) (bytes : List ℕ) → words_of words.now ≡ Ok (Request.Replay entry) → crawled tree ≡ Ok files → IsReport tree (entry ∷ []) files (script_of bytes).commands (still words.now tree bytes).bytes }
+    ensures fresh { (tree : Files) (files : Snapshot) (entries : List (List ℕ)) (commands : List Command) (t : Told) → moved_by tree entries (begun entries files) commands ≡ Ok t → IsFresh files entries t }
+    ensures numbers { (tree : Files) (entries : List (List ℕ)) (before now : Told) (commands : List Command) → moved_by tree entries before commands ≡ Ok now → KeepsNumbers before.standing now.standing }
 
     // What stays as it was.
     ensures same { F.told folder.new ≡ F.told folder.old }

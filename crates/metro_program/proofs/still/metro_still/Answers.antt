@@ -5,6 +5,7 @@ use Rattle.metro_program.proofs.Tells.{answer_of, read_of, refused_status, told_
 use Rattle.metro_program.proofs.Outcomes.{answered_by, bundle_unread, done_by, keeps_to_plan, limited_by, reason_by, refused_by, script_stood, script_unread, unread_script}
 use Rattle.metro_program.proofs.Endings.{ended_by}
 use Rattle.metro_program.proofs.History.{fresh_history, kept_history}
+use Rattle.metro_program.proofs.Lines.{reported}
 use Rattle.metro_program.proofs.still.metro_still.Goals as goal
 
 pub returns-clause-refused : goal.returns-clause-refused
@@ -52,7 +53,10 @@ pub returns-clause-lines : goal.returns-clause-lines
 returns-clause-lines g c = λ tree before read told gives gave three stood. c.run-ending.ensures.lines tree before read told gives gave (read_of c.tell.result c.run-ending.result c.tell.ensures.status three) stood
 
 pub returns-clause-fresh : goal.returns-clause-fresh
-returns-clause-fresh g c = λ tree files entries commands l e. fresh_history files entries tree commands l e
+returns-clause-fresh g c = λ tree files entries commands t e. fresh_history files entries tree commands t e
 
 pub returns-clause-numbers : goal.returns-clause-numbers
 returns-clause-numbers g c = λ tree entries before now commands e. kept_history tree entries before now commands e
+
+pub returns-clause-report : goal.returns-clause-report
+returns-clause-report g c = λ tree files entry bytes named taken. reported c.args.words.now tree files entry bytes named taken
