@@ -20,7 +20,7 @@ use Rattle.mt_fresh.proofs.Sizes.{fresh_size}
 use Rattle.mt_revision.specs.Contents.{entries_in, modules_in}
 use Rattle.mt_revision.specs.Logs.{number_after}
 use Rattle.mt_revision.specs.Numberings.{extended, has_path}
-use Rattle.mt_revision.specs.Revisions.{held_before, made_after, next_number}
+use Rattle.mt_revision.specs.Revisions.{bundle_of, held_before, made_after, next_number}
 use Rattle.mt_revision.specs.declared.revision.Revision.{Revision}
 use Rattle.mt_revision.proofs.Extensions.{ascending_distinct, extended_distinct}
 use Rattle.metro_program.specs.declared.ending.Ending.TheVariants.{Done}
@@ -93,18 +93,17 @@ held_published (Some r) = refl
 -- what is published of it
 pub next_published :
     (s : Stage) (numbering entries : List (List ℕ)) (graph : GraphMap) (r : Revision) → r ≡ next_of s numbering entries graph
-    → published_of r ≡ published_in entries (standing s) numbering graph
-next_published s numbering entries graph r e =
-    let p = published_in entries (standing s) numbering graph in
-    ap published_of e ∙ ap (λ n. record { number = n; changes = length s.journal; held = p.held; bundle = p.bundle }) (number_published s.latest)
+    → published_of r ≡ published_in (standing s) numbering graph
+next_published s numbering entries graph r e = ap published_of e ∙ ap (λ n. record { number = n; changes = length s.journal; held = (published_in (standing s) numbering graph).held }) (number_published s.latest)
 
 -- the line that tells of it
 pub next_line :
     (s : Stage) (numbering entries : List (List ℕ)) (graph : GraphMap) (r : Revision) → r ≡ next_of s numbering entries graph
-    → revision_line (held_before s.latest) (published_of r) ≡ (numbered_build entries (standing s) numbering graph).bytes
+    → revision_line (held_before s.latest) (published_of r) (bundle_of r) ≡ (numbered_build entries (standing s) numbering graph).bytes
 next_line s numbering entries graph r e =
-    ap (λ held. revision_line held (published_of r)) (held_published s.latest)
-    ∙ ap (revision_line (held_at (standing s))) (next_published s numbering entries graph r e)
+    ap (λ held. revision_line held (published_of r) (bundle_of r)) (held_published s.latest)
+    ∙ ap (λ p. revision_line (held_at (standing s)) p (bundle_of r)) (next_published s numbering entries graph r e)
+    ∙ ap (λ x. revision_line (held_at (standing s)) (published_in (standing s) numbering graph) (bundle_of x)) e
 
 latest_next : (journal : List Change) (latest : Option Revision) → IfSome latest (IsLatest journal) → option_map_or (λ r. r.changes == length journal) latest false ≡ false → next_number latest ≤ length journal + 1
 latest_next journal None h new = omega arith

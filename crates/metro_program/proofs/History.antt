@@ -17,6 +17,7 @@ use Rattle.mt_files.specs.declared.change.Change.TheVariants as change
 use Rattle.mt_files.specs.declared.fault.CrawlFault.{CrawlFault}
 use Rattle.mt_files.specs.declared.journal.JournalFault.{JournalFault}
 use Rattle.mt_fresh.specs.Graphs.{GraphMap, fresh_graph}
+use Rattle.mt_revision.specs.Builds.{bundle_in}
 use Rattle.mt_revision.specs.Logs.{Denied, IsDenied, IsLegal, IsNext, IsRevised, LogEntry, Published, Reached, Revised, files_at, number_after, unlogged}
 use Rattle.mt_revision.specs.Numberings.{extended, has_path, with_new}
 use Rattle.mt_script.specs.declared.command.Command.{Command}
@@ -25,7 +26,7 @@ use Rattle.metro_program.specs.declared.ending.Ending.{Ending}
 use Rattle.metro_program.specs.declared.ending.Ending.TheVariants.{Done}
 use Rattle.metro_program.specs.Reports.{same_line}
 use Rattle.metro_program.specs.Replay.{Standing, answered, build_after, built, changed, ended, fresh_build, graph_build, in_silence, moved, opened, published_in, rescanned_by, then_changed, with_change}
-use Rattle.metro_program.specs.History.{Answer, Built, IsFresh, KeepsNumbers, Same, Told, answer_after, begun, build_answer, command_answer, fresh_entry, graph_entry, led, log_of, logged, moved_by, then_moved}
+use Rattle.metro_program.specs.History.{Answer, Built, IsFresh, KeepsNumbers, Same, Told, answer_after, begun, build_answer, command_answer, fresh_entry, graph_entry, led, log_of, logged, moved_by, revised_in, then_moved}
 
 -- ---- what changes and builds keep, commands keep
 
@@ -102,14 +103,14 @@ module _ (files : Snapshot) (entries : List (List ℕ)) where
   longer_count journal more n h = let both = length-append journal more in omega (arith, both, h)
 
   next_longer : (journal more : List Change) (before : Reached) (entry : LogEntry) (now : Reached) → IsNext files entries journal before entry now → IsNext files entries (journal ++ more) before entry now
-  next_longer journal more before (Revised r) now h = record {
+  next_longer journal more before (Revised r bundle) now h = record {
     later = h.later;
     counted = longer_count journal more r.changes h.counted;
     number = h.number;
     graph = h.graph;
     fresh = ap (λ f. fresh_graph f entries) (longer_files journal more r.changes h.counted) ∙ h.fresh;
     held = h.held;
-    bundle = h.bundle;
+    bundled = h.bundled;
     reached = h.reached;
   }
   next_longer journal more before (Denied changes fault) now h = record {
@@ -148,11 +149,11 @@ module _ (files : Snapshot) (entries : List (List ℕ)) where
   all_files t h = ap (stepped_by files) (take_whole t.standing.journal) ∙ sym h.changed
 
   abbrev after_graph : Told → GraphMap → List (List ℕ) → Reached
-  after_graph t graph numbering = record { latest = Some (published_in entries t.standing numbering graph); count = length t.standing.journal; numbering = numbering }
+  after_graph t graph numbering = record { latest = Some (published_in t.standing numbering graph); count = length t.standing.journal; numbering = numbering }
 
   next_revised :
       (t : Told) (graph : GraphMap) (numbering : List (List ℕ)) (h : IsFresh files entries t) → fresh_graph t.standing.files entries ≡ Ok graph → numbering ≡ extended h.reached.numbering entries (keys graph)
-      → IsRevised files entries t.standing.journal h.reached (published_in entries t.standing numbering graph) (after_graph t graph numbering)
+      → IsRevised files entries t.standing.journal h.reached (published_in t.standing numbering graph) (bundle_in true numbering entries graph) (after_graph t graph numbering)
   next_revised t graph numbering h fresh is = record {
     later = h.counted;
     counted = omega arith;
@@ -160,8 +161,8 @@ module _ (files : Snapshot) (entries : List (List ℕ)) where
     graph = graph;
     fresh = ap (λ f. fresh_graph f entries) (all_files t h) ∙ fresh;
     held = refl;
-    bundle = refl;
-    reached = ap (λ n. record { latest = Some (published_in entries t.standing numbering graph); count = length t.standing.journal; numbering = n }) is;
+    bundled = refl;
+    reached = ap (λ n. record { latest = Some (published_in t.standing numbering graph); count = length t.standing.journal; numbering = n }) is;
   }
 
   -- the log with one more build
@@ -178,7 +179,7 @@ module _ (files : Snapshot) (entries : List (List ℕ)) where
       record {
         changed = h.changed;
         reached = after_graph t graph numbering;
-        legal = log_next t.standing.journal t.answers h.reached (Revised (published_in entries t.standing numbering graph)) (after_graph t graph numbering) h.legal (next_revised t graph numbering h fresh (ap (λ n. extended n entries (keys graph)) h.numbered));
+        legal = log_next t.standing.journal t.answers h.reached (revised_in entries t.standing numbering graph) (after_graph t graph numbering) h.legal (next_revised t graph numbering h fresh (ap (λ n. extended n entries (keys graph)) h.numbered));
         latest = refl;
         numbered = refl;
         counted = omega arith;

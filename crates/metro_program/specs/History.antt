@@ -1,5 +1,5 @@
 -- What the builds of a replay answer, their log and their lines.
-use Rattle.std.specs.Prelude.{◌≡◌, ◌≤◌, ◌==◌, ◌++◌, ℕ, List, [], ◌∷◌, length, if◌then◌else◌, Option, Some, None, Result, Ok, Err}
+use Rattle.std.specs.Prelude.{◌≡◌, ◌≤◌, ◌==◌, ◌++◌, ℕ, true, List, [], ◌∷◌, length, if◌then◌else◌, Option, Some, None, Result, Ok, Err}
 use Rattle.std.specs.List.{filter_map, fold}
 use Rattle.std.specs.Option.{option_map_or}
 use Rattle.std.specs.FinMap.{empty, keys}
@@ -8,6 +8,7 @@ use Rattle.mt_files.specs.Snapshots.{Snapshot}
 use Rattle.mt_files.specs.Changes.{stepped_by}
 use Rattle.mt_files.specs.declared.build_fault.BuildFault.{BuildFault}
 use Rattle.mt_fresh.specs.Graphs.{GraphMap, fresh_graph}
+use Rattle.mt_revision.specs.Builds.{bundle_in}
 use Rattle.mt_revision.specs.Logs.{Denied, IsLegal, LogEntry, Published, Reached, Revised, unlogged}
 use Rattle.mt_revision.specs.Numberings.{extended}
 use Rattle.mt_revision.specs.Texts.{Texts}
@@ -35,13 +36,13 @@ log_of answers = filter_map logged answers
 
 -- the texts that are held after an answer
 abbrev pub held_after : Texts → Answer → Texts
-held_after held (Built (Revised revision)) = revision.held
+held_after held (Built (Revised revision bundle)) = revision.held
 held_after held (Built (Denied changes fault)) = held
 held_after held (Same number) = held
 
 -- the line of an answer, where these texts were held before
 abbrev pub line_after : Texts → Answer → List ℕ
-line_after held (Built (Revised revision)) = revision_line held revision
+line_after held (Built (Revised revision bundle)) = revision_line held revision bundle
 line_after held (Built (Denied changes fault)) = refused_line changes fault
 line_after held (Same number) = same_line number
 
@@ -57,9 +58,13 @@ pub record Told : Type 0 where
 
 -- ---- a build
 
+-- what the build of a graph under a numbering logs: its revision and its bundle
+abbrev pub revised_in : List (List ℕ) → Standing → List (List ℕ) → GraphMap → LogEntry
+revised_in entries s numbering graph = Revised (published_in s numbering graph) (bundle_in true numbering entries graph)
+
 -- what the build of a graph logs: its revision, under the numbers that the build gives; or its fault
 abbrev pub graph_entry : List (List ℕ) → Standing → Result GraphMap BuildFault → LogEntry
-graph_entry entries s (Ok graph) = Revised (published_in entries s (extended s.numbering entries (keys graph)) graph)
+graph_entry entries s (Ok graph) = revised_in entries s (extended s.numbering entries (keys graph)) graph
 graph_entry entries s (Err fault) = Denied (length s.journal) fault
 
 -- what the build of the files logs

@@ -56,19 +56,14 @@ abbrev pub held_at : Standing → Texts
 held_at s = option_map_or (λ r. r.held) s.latest empty
 
 -- the revision that the build of a graph gives under a numbering
-abbrev pub published_in : List (List ℕ) → Standing → List (List ℕ) → GraphMap → Published
-published_in entries s numbering graph = record {
-  number = number_after s.latest;
-  changes = length s.journal;
-  held = held_in true numbering graph;
-  bundle = bundle_in true numbering entries graph;
-}
+abbrev pub published_in : Standing → List (List ℕ) → GraphMap → Published
+published_in s numbering graph = record { number = number_after s.latest; changes = length s.journal; held = held_in true numbering graph }
 
 -- the build of a graph under a numbering: it gives the next revision
 abbrev pub numbered_build : List (List ℕ) → Standing → List (List ℕ) → GraphMap → Step
 numbered_build entries s numbering graph = record {
-  standing = record { files = s.files; journal = s.journal; numbering = numbering; latest = Some (published_in entries s numbering graph); ending = Done };
-  bytes = revision_line (held_at s) (published_in entries s numbering graph);
+  standing = record { files = s.files; journal = s.journal; numbering = numbering; latest = Some (published_in s numbering graph); ending = Done };
+  bytes = revision_line (held_at s) (published_in s numbering graph) (bundle_in true numbering entries graph);
 }
 
 -- the build that is refused: it gives no number and no revision

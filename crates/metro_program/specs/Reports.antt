@@ -22,10 +22,10 @@ delta_text d = field (codes " added ") (length d.added) ++ field (codes " modifi
 abbrev pub bundle_text : List ℕ → List ℕ
 bundle_text bundle = field (codes " bytes ") (length bundle) ++ codes " digest " ++ encode_lower (sha256 bundle)
 
--- the line of a build that gave a revision, where these texts were held before
-abbrev pub revision_line : Texts → Published → List ℕ
-revision_line before revision =
-    field (codes "revision ") revision.number ++ field (codes " changes ") revision.changes ++ field (codes " modules ") (len revision.held) ++ delta_text (delta before revision.held) ++ bundle_text revision.bundle ++ codes "\n"
+-- the line of a build that gave a revision with this bundle, where these texts were held before
+abbrev pub revision_line : Texts → Published → List ℕ → List ℕ
+revision_line before revision bundle =
+    field (codes "revision ") revision.number ++ field (codes " changes ") revision.changes ++ field (codes " modules ") (len revision.held) ++ delta_text (delta before revision.held) ++ bundle_text bundle ++ codes "\n"
 
 -- the line of a build before which no change was accepted since the revision
 abbrev pub same_line : ℕ → List ℕ

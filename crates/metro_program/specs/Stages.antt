@@ -9,7 +9,7 @@ use Rattle.mt_files.specs.Changes.{path_of}
 use Rattle.mt_files.specs.declared.change.Change.{Change}
 use Rattle.mt_revision.specs.Logs.{Published}
 use Rattle.mt_revision.specs.Numberings.{has_path}
-use Rattle.mt_revision.specs.Revisions.{bundle_of, held_of}
+use Rattle.mt_revision.specs.Revisions.{held_of}
 use Rattle.mt_revision.specs.declared.revision.Revision.{Revision}
 use Rattle.metro_program.specs.declared.ending.Ending.{Ending}
 use Rattle.metro_program.specs.declared.stage.Stage.{Stage}
@@ -18,7 +18,7 @@ use Rattle.metro_program.specs.Ending.{IsAnswer, status_of}
 
 -- what is published of a revision
 abbrev pub published_of : Revision → Published
-published_of r = record { number = r.number; changes = r.changes; held = held_of r; bundle = bundle_of r }
+published_of r = record { number = r.number; changes = r.changes; held = held_of r }
 
 -- where a replay stands
 abbrev pub standing : Stage → Standing

@@ -55,7 +55,7 @@ fn next_build(
     requires bounded { IsBounded stage.now }
     requires new { option_map_or (λ r. r.changes == length stage.now.journal) stage.now.latest false ≡ false }
     ensures numbering { IfOk result (λ b. b.numbering ≡ extended stage.now.numbering entries.now (map.keys graph)) }
-    ensures published { IfOk result (λ b. published_of b.revision ≡ published_in entries.now (standing stage.now) (extended stage.now.numbering entries.now (map.keys graph)) graph) }
+    ensures published { IfOk result (λ b. published_of b.revision ≡ published_in (standing stage.now) (extended stage.now.numbering entries.now (map.keys graph)) graph) }
     ensures line { IfOk result (λ b. b.line ≡ (numbered_build entries.now (standing stage.now) (extended stage.now.numbering entries.now (map.keys graph)) graph).bytes) }
     ensures latest { IfOk result (λ b. IsLatest stage.now.journal b.revision) }
 {

@@ -80,7 +80,7 @@ pub fn revision_line(
     revision: &Revision,
 ) -> Result<Text, AllocError>
     requires touched { revision.now.touched ≡ touched_between (held_before (option_copied before)) (held_of revision.now) }
-    ensures line { IfOk result (λ line. line ≡ revision_line (held_before (option_copied before.entry)) (published_of revision.now)) }
+    ensures line { IfOk result (λ line. line ≡ revision_line (held_before (option_copied before.entry)) (published_of revision.now) (bundle_of revision.now)) }
 {
     let mut line = Text::new(alloc);
     push_number(alloc, &mut line, "revision ", revision.number() as usize)?;

@@ -11,16 +11,15 @@ use Rattle.mt_revision.specs.Numberings.{extended}
 use Rattle.mt_revision.specs.Texts.{Texts}
 use Rattle.mt_revision.specs.Builds.{bundle_in, held_in}
 
--- what a build gave: its number, how many changes were accepted before it, the texts of its modules, and its bundle
+-- what a build gave: its number, how many changes were accepted before it, and the texts of its modules
 pub record Published : Type 0 where
   pub number : ℕ
   pub changes : ℕ
   pub held : Texts
-  pub bundle : List ℕ
 
--- a build as the log has it: its revision, or its first fault and how many changes were accepted before it
+-- a build as the log has it: its revision with its bundle, or its first fault and how many changes were accepted before it
 pub data LogEntry : Type 0 where
-  Revised : Published → LogEntry
+  Revised : Published → List ℕ → LogEntry
   Denied : ℕ → BuildFault → LogEntry
 
 -- what a log has reached: its last revision, the count of changes of its last build, and the numbered paths
@@ -42,14 +41,14 @@ abbrev pub number_after : Option Published → ℕ
 number_after latest = option_map_or (λ r. r.number + 1) latest 1
 
 -- a revision that may come next: it counts no fewer changes than the build before, has the next number, and has the texts and the bundle of a fresh graph of the files that it counts, under the numbers so far and those of the paths that had none
-pub record IsRevised (files : Snapshot) (entries : List (List ℕ)) (journal : List Change) (before : Reached) (revision : Published) (now : Reached) : Type 0 where
+pub record IsRevised (files : Snapshot) (entries : List (List ℕ)) (journal : List Change) (before : Reached) (revision : Published) (bundle : List ℕ) (now : Reached) : Type 0 where
   pub later : before.count ≤ revision.changes
   pub counted : revision.changes ≤ length journal
   pub number : revision.number ≡ number_after before.latest
   pub graph : GraphMap
   pub fresh : fresh_graph (files_at files journal revision.changes) entries ≡ Ok graph
   pub held : revision.held ≡ held_in true now.numbering graph
-  pub bundle : revision.bundle ≡ bundle_in true now.numbering entries graph
+  pub bundled : bundle ≡ bundle_in true now.numbering entries graph
   pub reached : now ≡ record { latest = Some revision; count = revision.changes; numbering = extended before.numbering entries (keys graph) }
 
 -- a refusal that may come next: it counts no fewer changes than the build before, names the first fault of the files that it counts, and changes no number
@@ -61,7 +60,7 @@ pub record IsDenied (files : Snapshot) (entries : List (List ℕ)) (journal : Li
 
 -- a build that may come next
 abbrev pub IsNext : Snapshot → List (List ℕ) → List Change → Reached → LogEntry → Reached → Type 0
-IsNext files entries journal before (Revised revision) now = IsRevised files entries journal before revision now
+IsNext files entries journal before (Revised revision bundle) now = IsRevised files entries journal before revision bundle now
 IsNext files entries journal before (Denied changes fault) now = IsDenied files entries journal before changes fault now
 
 -- a log in which each build may come next after the one before

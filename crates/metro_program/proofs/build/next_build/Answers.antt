@@ -5,7 +5,7 @@ use Rattle.std.specs.Cmp.Lexicographic.{slice_cmp}
 use Rattle.std.specs.FinMap.{keys}
 use Rattle.mt_io.proofs.Tables.{keys_sorted}
 use Rattle.mt_revision.specs.Numberings.{extended}
-use Rattle.mt_revision.specs.Revisions.{held_before}
+use Rattle.mt_revision.specs.Revisions.{bundle_of, held_before}
 use Rattle.metro_program.specs.Reports.{revision_line}
 use Rattle.metro_program.specs.Stages.{published_of}
 use Rattle.metro_program.proofs.Builds.{few_extended, few_members, few_numbered, next_line, next_of}
@@ -36,5 +36,5 @@ returns-clause-line c =
     let before : option_copied c.as_ref-before.result ≡ c.args.stage.now.latest = search rules in
     let is : c.in_ok-revision.revision ≡ next_of c.args.stage.now (extended c.args.stage.now.numbering c.args.entries.now (keys c.args.graph)) c.args.entries.now c.args.graph = search rules in
     c.in_ok-line.ensures.line
-    ∙ ap (λ b. revision_line (held_before b) (published_of c.in_ok-revision.revision)) before
+    ∙ ap (λ b. revision_line (held_before b) (published_of c.in_ok-revision.revision) (bundle_of c.in_ok-revision.revision)) before
     ∙ next_line c.args.stage.now (extended c.args.stage.now.numbering c.args.entries.now (keys c.args.graph)) c.args.entries.now c.args.graph c.in_ok-revision.revision is
