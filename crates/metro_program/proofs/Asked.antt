@@ -1,7 +1,7 @@
 -- What a run of `replay` keeps to, for the words that ask for it.
 use Rattle.std.proofs.Common.{◌≡◌, ◌∷◌, ℕ, List, [], Option, Some, Ok, refl, ap, sym, subst}
-use Rattle.mt_io.specs.Files.{Files}
-use Rattle.mt_io.specs.Told.{Reading}
+use Rattle.m0_io.specs.Files.{Files}
+use Rattle.m0_io.specs.Told.{Reading}
 use Rattle.metro_program.specs.declared.ending.Ending.{Ending}
 use Rattle.metro_program.specs.declared.words.Request.TheVariants.{Replay}
 use Rattle.metro_program.specs.Replay.{replay_plan}

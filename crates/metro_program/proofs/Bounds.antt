@@ -7,16 +7,16 @@ use Rattle.std.specs.Ordering.{nat_cmp, eq_by_cmp}
 use Rattle.std.specs.Cmp.Lexicographic.{slice_cmp, nat_list_cmp_total}
 use Rattle.std.specs.FinMap.{contains_key, contains_key-keys, get, keys, len, len-entries, get-insert, get-remove}
 use Rattle.std.proofs.lemmas.List.{map-append, length-map}
-use Rattle.mt_files.specs.Changes.{path_of, stepped}
-use Rattle.mt_files.specs.Snapshots.{Snapshot}
-use Rattle.mt_files.specs.declared.change.Change.{Change}
-use Rattle.mt_files.specs.declared.change.Change.TheVariants.{Put, Del}
-use Rattle.mt_files.specs.declared.file_map.Entry.{Entry}
-use Rattle.mt_files.proofs.Reaches.{Has, has_head, has_key}
-use Rattle.mt_fresh.proofs.Explores.{append_left, append_right}
-use Rattle.mt_io.proofs.Children.{tied_is}
+use Rattle.m0_files.specs.Changes.{path_of, stepped}
+use Rattle.m0_files.specs.Snapshots.{Snapshot}
+use Rattle.m0_files.specs.declared.change.Change.{Change}
+use Rattle.m0_files.specs.declared.change.Change.TheVariants.{Put, Del}
+use Rattle.m0_files.specs.declared.file_map.Entry.{Entry}
+use Rattle.m0_files.proofs.Reaches.{Has, has_head, has_key}
+use Rattle.m0_fresh.proofs.Explores.{append_left, append_right}
+use Rattle.m0_io.proofs.Children.{tied_is}
 use Rattle.std.proofs.lemmas.Bool.{false≢true}
-use Rattle.mt_revision.specs.declared.revision.Revision.{Revision}
+use Rattle.m0_revision.specs.declared.revision.Revision.{Revision}
 use Rattle.metro_program.specs.declared.ending.Ending.TheVariants.{Done}
 use Rattle.metro_program.specs.Ending.{status_of}
 use Rattle.metro_program.specs.declared.stage.Stage.{Stage}

@@ -10,19 +10,19 @@ use Rattle.std.proofs.lemmas.Bool.{eqb-false}
 use Rattle.std.proofs.lemmas.Cmp.{nat_list_eq_equiv}
 use Rattle.std.proofs.lemmas.List.{length-map}
 use Rattle.std.proofs.lemmas.Map.Made.{length-le_from_is_member}
-use Rattle.mt_io.proofs.Tables.{keys_sorted}
-use Rattle.mt_files.specs.Changes.{path_of}
-use Rattle.mt_files.specs.Snapshots.{Snapshot}
-use Rattle.mt_files.specs.declared.build_fault.BuildFault.{BuildFault}
-use Rattle.mt_files.specs.declared.change.Change.{Change}
-use Rattle.mt_fresh.specs.Graphs.{GraphMap, fresh_graph}
-use Rattle.mt_fresh.proofs.Sizes.{fresh_size}
-use Rattle.mt_revision.specs.Contents.{entries_in, modules_in}
-use Rattle.mt_revision.specs.Logs.{number_after}
-use Rattle.mt_revision.specs.Numberings.{extended, has_path}
-use Rattle.mt_revision.specs.Revisions.{bundle_of, held_before, made_after, next_number}
-use Rattle.mt_revision.specs.declared.revision.Revision.{Revision}
-use Rattle.mt_revision.proofs.Extensions.{ascending_distinct, extended_distinct}
+use Rattle.m0_io.proofs.Tables.{keys_sorted}
+use Rattle.m0_files.specs.Changes.{path_of}
+use Rattle.m0_files.specs.Snapshots.{Snapshot}
+use Rattle.m0_files.specs.declared.build_fault.BuildFault.{BuildFault}
+use Rattle.m0_files.specs.declared.change.Change.{Change}
+use Rattle.m0_fresh.specs.Graphs.{GraphMap, fresh_graph}
+use Rattle.m0_fresh.proofs.Sizes.{fresh_size}
+use Rattle.m0_revision.specs.Contents.{entries_in, modules_in}
+use Rattle.m0_revision.specs.Logs.{number_after}
+use Rattle.m0_revision.specs.Numberings.{extended, has_path}
+use Rattle.m0_revision.specs.Revisions.{bundle_of, held_before, made_after, next_number}
+use Rattle.m0_revision.specs.declared.revision.Revision.{Revision}
+use Rattle.m0_revision.proofs.Extensions.{ascending_distinct, extended_distinct}
 use Rattle.metro_program.specs.declared.ending.Ending.TheVariants.{Done}
 use Rattle.metro_program.specs.declared.stage.Stage.{Stage}
 use Rattle.metro_program.specs.Ending.{status_of}

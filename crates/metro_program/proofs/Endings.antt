@@ -2,20 +2,20 @@
 use Rattle.std.proofs.Common.{inl, inr, ◌⊎◌, ◌≡◌, ◌==◌, ℕ, List, [], ◌∷◌, length, Option, Some, None, Result, Ok, Err, refl, sym, ◌∙◌, subst, nat_lt, if◌then◌else◌}
 use Rattle.std.specs.List.{fold}
 use Rattle.std.specs.Option.{option_map_or}
-use Rattle.mt_io.specs.Files.{Files}
-use Rattle.mt_files.specs.Snapshots.{Snapshot}
-use Rattle.mt_files.specs.Crawl.{crawled, entry_of}
-use Rattle.mt_files.specs.Journals.{full, is_full, most_changes}
-use Rattle.mt_files.specs.Rescans.{changes_between, changes_to}
-use Rattle.mt_files.specs.declared.build_fault.BuildFault.{BuildFault}
-use Rattle.mt_files.specs.declared.fault.CrawlFault.{CrawlFault}
-use Rattle.mt_files.specs.declared.change.Change.{Change}
-use Rattle.mt_files.specs.declared.change.Change.TheVariants as change
-use Rattle.mt_fresh.specs.Graphs.{GraphMap, fresh_graph}
-use Rattle.mt_revision.specs.Logs.{Published}
-use Rattle.mt_script.specs.Scripts.{script_from}
-use Rattle.mt_script.specs.declared.command.Command.{Command}
-use Rattle.mt_script.specs.declared.command.Command.TheVariants.{Put, Del, Rescan, Build, End}
+use Rattle.m0_io.specs.Files.{Files}
+use Rattle.m0_files.specs.Snapshots.{Snapshot}
+use Rattle.m0_files.specs.Crawl.{crawled, entry_of}
+use Rattle.m0_files.specs.Journals.{full, is_full, most_changes}
+use Rattle.m0_files.specs.Rescans.{changes_between, changes_to}
+use Rattle.m0_files.specs.declared.build_fault.BuildFault.{BuildFault}
+use Rattle.m0_files.specs.declared.fault.CrawlFault.{CrawlFault}
+use Rattle.m0_files.specs.declared.change.Change.{Change}
+use Rattle.m0_files.specs.declared.change.Change.TheVariants as change
+use Rattle.m0_fresh.specs.Graphs.{GraphMap, fresh_graph}
+use Rattle.m0_revision.specs.Logs.{Published}
+use Rattle.m0_script.specs.Scripts.{script_from}
+use Rattle.m0_script.specs.declared.command.Command.{Command}
+use Rattle.m0_script.specs.declared.command.Command.TheVariants.{Put, Del, Rescan, Build, End}
 use Rattle.metro_program.specs.declared.ending.Ending.{Ending}
 use Rattle.metro_program.specs.declared.ending.Ending.TheVariants.{Done, Limit}
 use Rattle.metro_program.specs.declared.ending.Limit.TheVariants.{Changes, JournalBytes}

@@ -5,23 +5,23 @@ use Rattle.std.specs.Option.{option_map_or}
 use Rattle.std.specs.FinMap.{keys}
 use Rattle.std.proofs.lemmas.List.Sums.{fold-append}
 use Rattle.std.proofs.lemmas.List.Elements.{filter_map-append}
-use Rattle.mt_io.specs.Files.{Files}
-use Rattle.mt_files.specs.Snapshots.{Snapshot}
-use Rattle.mt_files.specs.Crawl.{entry_of}
-use Rattle.mt_files.specs.Changes.{stepped, stepped_by}
-use Rattle.mt_files.specs.Journals.{push_answer}
-use Rattle.mt_files.specs.Rescans.{rescanned}
-use Rattle.mt_files.specs.declared.build_fault.BuildFault.{BuildFault}
-use Rattle.mt_files.specs.declared.change.Change.{Change}
-use Rattle.mt_files.specs.declared.change.Change.TheVariants as change
-use Rattle.mt_files.specs.declared.fault.CrawlFault.{CrawlFault}
-use Rattle.mt_files.specs.declared.journal.JournalFault.{JournalFault}
-use Rattle.mt_fresh.specs.Graphs.{GraphMap, fresh_graph}
-use Rattle.mt_revision.specs.Builds.{bundle_in}
-use Rattle.mt_revision.specs.Logs.{Denied, IsDenied, IsLegal, IsNext, IsRevised, LogEntry, Published, Reached, Revised, files_at, number_after, unlogged}
-use Rattle.mt_revision.specs.Numberings.{extended, has_path, with_new}
-use Rattle.mt_script.specs.declared.command.Command.{Command}
-use Rattle.mt_script.specs.declared.command.Command.TheVariants.{Put, Del, Rescan, Build, End}
+use Rattle.m0_io.specs.Files.{Files}
+use Rattle.m0_files.specs.Snapshots.{Snapshot}
+use Rattle.m0_files.specs.Crawl.{entry_of}
+use Rattle.m0_files.specs.Changes.{stepped, stepped_by}
+use Rattle.m0_files.specs.Journals.{push_answer}
+use Rattle.m0_files.specs.Rescans.{rescanned}
+use Rattle.m0_files.specs.declared.build_fault.BuildFault.{BuildFault}
+use Rattle.m0_files.specs.declared.change.Change.{Change}
+use Rattle.m0_files.specs.declared.change.Change.TheVariants as change
+use Rattle.m0_files.specs.declared.fault.CrawlFault.{CrawlFault}
+use Rattle.m0_files.specs.declared.journal.JournalFault.{JournalFault}
+use Rattle.m0_fresh.specs.Graphs.{GraphMap, fresh_graph}
+use Rattle.m0_revision.specs.Builds.{bundle_in}
+use Rattle.m0_revision.specs.Logs.{Denied, IsDenied, IsLegal, IsNext, IsRevised, LogEntry, Published, Reached, Revised, files_at, number_after, unlogged}
+use Rattle.m0_revision.specs.Numberings.{extended, has_path, with_new}
+use Rattle.m0_script.specs.declared.command.Command.{Command}
+use Rattle.m0_script.specs.declared.command.Command.TheVariants.{Put, Del, Rescan, Build, End}
 use Rattle.metro_program.specs.declared.ending.Ending.{Ending}
 use Rattle.metro_program.specs.declared.ending.Ending.TheVariants.{Done}
 use Rattle.metro_program.specs.Reports.{same_line}

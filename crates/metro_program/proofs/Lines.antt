@@ -4,19 +4,19 @@ use Rattle.std.specs.List.{fold}
 use Rattle.std.specs.Option.{option_map_or}
 use Rattle.std.specs.FinMap.{empty}
 use Rattle.std.proofs.lemmas.List.Sums.{fold-append}
-use Rattle.mt_io.specs.Files.{Files}
-use Rattle.mt_files.specs.Snapshots.{Snapshot}
-use Rattle.mt_files.specs.Crawl.{crawled, entry_of}
-use Rattle.mt_files.specs.Rescans.{rescanned}
-use Rattle.mt_files.specs.declared.build_fault.BuildFault.{BuildFault}
-use Rattle.mt_files.specs.declared.change.Change.TheVariants as change
-use Rattle.mt_fresh.specs.Graphs.{GraphMap, fresh_graph}
-use Rattle.mt_revision.specs.Logs.{Published}
-use Rattle.mt_revision.specs.Texts.{Texts}
-use Rattle.mt_script.specs.Scripts.{script_of}
-use Rattle.mt_script.specs.declared.command.Command.{Command}
-use Rattle.mt_script.specs.declared.command.Command.TheVariants.{Put, Del, Rescan, Build, End}
-use Rattle.mt_script.specs.declared.fault.ScriptFault.{ScriptFault}
+use Rattle.m0_io.specs.Files.{Files}
+use Rattle.m0_files.specs.Snapshots.{Snapshot}
+use Rattle.m0_files.specs.Crawl.{crawled, entry_of}
+use Rattle.m0_files.specs.Rescans.{rescanned}
+use Rattle.m0_files.specs.declared.build_fault.BuildFault.{BuildFault}
+use Rattle.m0_files.specs.declared.change.Change.TheVariants as change
+use Rattle.m0_fresh.specs.Graphs.{GraphMap, fresh_graph}
+use Rattle.m0_revision.specs.Logs.{Published}
+use Rattle.m0_revision.specs.Texts.{Texts}
+use Rattle.m0_script.specs.Scripts.{script_of}
+use Rattle.m0_script.specs.declared.command.Command.{Command}
+use Rattle.m0_script.specs.declared.command.Command.TheVariants.{Put, Del, Rescan, Build, End}
+use Rattle.m0_script.specs.declared.fault.ScriptFault.{ScriptFault}
 use Rattle.metro_program.specs.declared.ending.Ending.{Ending}
 use Rattle.metro_program.specs.declared.ending.Ending.TheVariants.{Done}
 use Rattle.metro_program.specs.declared.words.Request.TheVariants.{Replay}

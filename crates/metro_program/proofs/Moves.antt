@@ -2,8 +2,8 @@
 use Rattle.std.proofs.Common.{inl, inr, ◌⊎◌, ◌≡◌, ℕ, List, [], ◌∷◌, Option, Result, Ok, Err, refl, ap, sym, subst, arith}
 use Rattle.std.specs.List.{fold}
 use Rattle.std.specs.Prelude.{IfErr}
-use Rattle.mt_io.proofs.Growth.{grows_none, part_none}
-use Rattle.mt_files.specs.declared.change.Change.{Change}
+use Rattle.m0_io.proofs.Growth.{grows_none, part_none}
+use Rattle.m0_files.specs.declared.change.Change.{Change}
 use Rattle.metro_program.specs.declared.ending.Ending.{Ending}
 use Rattle.metro_program.specs.declared.ending.Ending.TheVariants.{NoMemory, ReadFailed}
 use Rattle.metro_program.specs.Ending.{IsAnswer}

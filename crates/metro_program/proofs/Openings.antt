@@ -1,13 +1,13 @@
 -- How a replay begins: with a crawl and a build.
 use Rattle.std.proofs.Common.{inl, inr, ◌⊎◌, ◌≡◌, ℕ, List, Option, Result, Ok, Err, refl, sym, subst, arith}
-use Rattle.mt_io.specs.Files.{Files}
-use Rattle.mt_io.specs.Told.{Grows, GrowsByPrefix}
-use Rattle.mt_io.proofs.Growth.{grows_then}
-use Rattle.mt_io.specs.declared.trouble.Trouble.{Trouble}
-use Rattle.mt_io.specs.declared.trouble.Trouble.TheVariants as trouble
-use Rattle.mt_files.specs.Snapshots.{Snapshot}
-use Rattle.mt_files.specs.declared.fault.CrawlFault.{CrawlFault}
-use Rattle.mt_files.specs.declared.fault.CrawlFault.TheVariants as crawl
+use Rattle.m0_io.specs.Files.{Files}
+use Rattle.m0_io.specs.Told.{Grows, GrowsByPrefix}
+use Rattle.m0_io.proofs.Growth.{grows_then}
+use Rattle.m0_io.specs.declared.trouble.Trouble.{Trouble}
+use Rattle.m0_io.specs.declared.trouble.Trouble.TheVariants as trouble
+use Rattle.m0_files.specs.Snapshots.{Snapshot}
+use Rattle.m0_files.specs.declared.fault.CrawlFault.{CrawlFault}
+use Rattle.m0_files.specs.declared.fault.CrawlFault.TheVariants as crawl
 use Rattle.metro_program.specs.declared.ending.Ending.{Ending}
 use Rattle.metro_program.specs.declared.ending.Ending.TheVariants.{WriteFailed, NoMemory}
 use Rattle.metro_program.specs.Ending.{IsAnswer}

@@ -4,24 +4,24 @@ use Rattle.std.specs.Option.{unwrap_or}
 use Rattle.std.specs.FinMap.{get, insert}
 use Rattle.std.proofs.lemmas.Bool.{false≢true}
 use Rattle.std.specs.Option.{option_map}
-use Rattle.mt_io.specs.Causes.{Rose}
-use Rattle.mt_io.specs.Files.{Files}
-use Rattle.mt_io.specs.Told.{Grows}
-use Rattle.mt_path.specs.Names.{is_source}
-use Rattle.mt_files.specs.Snapshots.{Snapshot}
-use Rattle.mt_files.specs.Walks.{walk_of}
-use Rattle.mt_files.specs.Crawl.{crawled, files_of, nothing_taken, then_file, with_file, with_files, with_source}
-use Rattle.mt_fresh.specs.Graphs.{GraphMap, fresh_graph}
-use Rattle.mt_files.specs.declared.build_fault.BuildFault.{BuildFault}
-use Rattle.mt_files.specs.declared.walk.Taken.{Taken}
-use Rattle.mt_files.specs.declared.file_map.Entry.TheVariants.{Source, Other}
-use Rattle.mt_files.specs.declared.fault.CrawlFault.{CrawlFault}
-use Rattle.mt_files.specs.declared.fault.CrawlFault.TheVariants as crawl
+use Rattle.m0_io.specs.Causes.{Rose}
+use Rattle.m0_io.specs.Files.{Files}
+use Rattle.m0_io.specs.Told.{Grows}
+use Rattle.m0_path.specs.Names.{is_source}
+use Rattle.m0_files.specs.Snapshots.{Snapshot}
+use Rattle.m0_files.specs.Walks.{walk_of}
+use Rattle.m0_files.specs.Crawl.{crawled, files_of, nothing_taken, then_file, with_file, with_files, with_source}
+use Rattle.m0_fresh.specs.Graphs.{GraphMap, fresh_graph}
+use Rattle.m0_files.specs.declared.build_fault.BuildFault.{BuildFault}
+use Rattle.m0_files.specs.declared.walk.Taken.{Taken}
+use Rattle.m0_files.specs.declared.file_map.Entry.TheVariants.{Source, Other}
+use Rattle.m0_files.specs.declared.fault.CrawlFault.{CrawlFault}
+use Rattle.m0_files.specs.declared.fault.CrawlFault.TheVariants as crawl
 use Rattle.metro_program.specs.declared.ending.Ending.{Ending}
 use Rattle.metro_program.specs.declared.ending.Ending.TheVariants as ending
 use Rattle.metro_program.specs.Words.{words_of}
 use Rattle.metro_program.specs.Ending.{IsAnswer, IsAnswered, status_of}
-use Rattle.mt_io.specs.Told.{Reading}
+use Rattle.m0_io.specs.Told.{Reading}
 use Rattle.metro_program.specs.declared.words.Request.{Request}
 use Rattle.metro_program.specs.declared.words.Request.TheVariants.{Bundle, Replay}
 use Rattle.metro_program.specs.Plans.{Plan, crawl_ending}

@@ -1,7 +1,7 @@
 -- What is written before a plan, and how a run keeps to it.
 use Rattle.std.proofs.Common.{◌≡◌, ◌++◌, ℕ, List, [], Option, append_assoc, ap, sym}
-use Rattle.mt_io.specs.Told.{Grows, GrowsByPrefix}
-use Rattle.mt_io.proofs.Growth.{grows_then, part_more, part_then, part_none}
+use Rattle.m0_io.specs.Told.{Grows, GrowsByPrefix}
+use Rattle.m0_io.proofs.Growth.{grows_then, part_more, part_then, part_none}
 use Rattle.metro_program.specs.declared.ending.Ending.{Ending}
 use Rattle.metro_program.specs.Ending.{IsAnswer}
 use Rattle.metro_program.specs.Plans.{Plan, with_bytes, without_bytes}

@@ -1,13 +1,13 @@
 -- How the plan of a replay goes on, command by command.
 use Rattle.std.proofs.Common.{◌≡◌, ◌+◌, ℕ, List, Option, Result, Ok, Err, refl, ap, ◌∙◌}
-use Rattle.mt_io.specs.Files.{Files}
-use Rattle.mt_script.specs.Commands.{GoesOn}
-use Rattle.mt_script.specs.Scripts.{script_from}
-use Rattle.mt_script.specs.Steps.{Found, Stopped, next_of}
-use Rattle.mt_script.specs.declared.command.Command.{Command}
-use Rattle.mt_script.specs.declared.command.Command.TheVariants.{Put, Del, Rescan, Build, End}
-use Rattle.mt_script.specs.declared.fault.ScriptFault.{ScriptFault}
-use Rattle.mt_script.proofs.Runs.{script_found, script_ended, script_stopped}
+use Rattle.m0_io.specs.Files.{Files}
+use Rattle.m0_script.specs.Commands.{GoesOn}
+use Rattle.m0_script.specs.Scripts.{script_from}
+use Rattle.m0_script.specs.Steps.{Found, Stopped, next_of}
+use Rattle.m0_script.specs.declared.command.Command.{Command}
+use Rattle.m0_script.specs.declared.command.Command.TheVariants.{Put, Del, Rescan, Build, End}
+use Rattle.m0_script.specs.declared.fault.ScriptFault.{ScriptFault}
+use Rattle.m0_script.proofs.Runs.{script_found, script_ended, script_stopped}
 use Rattle.metro_program.specs.declared.ending.Ending.{Ending}
 use Rattle.metro_program.specs.Plans.{Plan, with_bytes, without_bytes, script_ending}
 use Rattle.metro_program.specs.Replay.{Standing, Step, left_plan, moved, replayed, script_plan}

@@ -2,22 +2,22 @@
 use Rattle.std.proofs.Common.{◌≡◌, ◌+◌, ◌≤◌, ◌++◌, ℕ, List, [], take, drop, Option, Some, Result, Ok, Err, refl, ap, sym, subst, ◌∙◌, append_assoc, append-nil, arith}
 use Rattle.std.proofs.lemmas.List.{append_cancel_left, take-append-drop}
 use Rattle.std.specs.Prelude.{OnOk, IfErr}
-use Rattle.mt_io.specs.Files.{Files}
-use Rattle.mt_io.specs.Causes.{Rose}
-use Rattle.mt_io.specs.Told.{Grows, Reading, read_on}
-use Rattle.mt_io.proofs.Growth.{grows_none, grows_then, part_none}
-use Rattle.mt_script.specs.Reads.{Finds, Interrupted, IsOf, Progress}
-use Rattle.mt_script.specs.Steps.{Found, Stopped, next_of}
-use Rattle.mt_script.specs.declared.command.Command.{Command}
-use Rattle.mt_script.specs.declared.fault.ScriptFault.{ScriptFault}
+use Rattle.m0_io.specs.Files.{Files}
+use Rattle.m0_io.specs.Causes.{Rose}
+use Rattle.m0_io.specs.Told.{Grows, Reading, read_on}
+use Rattle.m0_io.proofs.Growth.{grows_none, grows_then, part_none}
+use Rattle.m0_script.specs.Reads.{Finds, Interrupted, IsOf, Progress}
+use Rattle.m0_script.specs.Steps.{Found, Stopped, next_of}
+use Rattle.m0_script.specs.declared.command.Command.{Command}
+use Rattle.m0_script.specs.declared.fault.ScriptFault.{ScriptFault}
 use Rattle.metro_program.specs.declared.ending.Ending.{Ending}
 use Rattle.metro_program.specs.Ending.{IsAnswer}
 use Rattle.metro_program.specs.Plans.{Plan, with_bytes, without_bytes, script_ending}
 use Rattle.metro_program.specs.Replay.{Standing, Step, left_plan, moved}
 use Rattle.metro_program.specs.Runs.{Ends, Gave, HasLines, Keeps, Run, Start}
 use Rattle.metro_program.specs.Stages.{Halted, Went}
-use Rattle.mt_script.specs.declared.fault.ScriptFault.TheVariants.{Bad, Cut, FileTooLarge, TooManyCommands, Failed, NoMemory}
-use Rattle.mt_script.proofs.Laws.{found_more, found_without}
+use Rattle.m0_script.specs.declared.fault.ScriptFault.TheVariants.{Bad, Cut, FileTooLarge, TooManyCommands, Failed, NoMemory}
+use Rattle.m0_script.proofs.Laws.{found_more, found_without}
 use Rattle.metro_program.specs.declared.ending.Ending.TheVariants.{ReadFailed, NoMemory as EndNoMemory}
 use Rattle.metro_program.proofs.Moves.{no_memory, no_read}
 use Rattle.metro_program.proofs.Plans.{keeps_after, keeps_before, keeps_end, with_two}

@@ -9,23 +9,23 @@ use Rattle.std.specs.Cmp.Lexicographic.{slice_cmp, nat_list_cmp_total}
 use Rattle.std.specs.FinMap.{contains_key, contains_key-keys, find, get, get-from_entries, keys}
 use Rattle.std.proofs.lemmas.Bool.{or_cases}
 use Rattle.std.proofs.lemmas.List.Folds.{list_any-append}
-use Rattle.mt_io.proofs.Children.{tied_is}
-use Rattle.mt_tokens.specs.Transform.{transformed}
-use Rattle.mt_files.specs.Edges.{faults_at, kind_of, made_faults}
-use Rattle.mt_files.specs.Fresh.{all_faults, decided, members}
-use Rattle.mt_files.specs.Reach.{reach}
-use Rattle.mt_files.specs.Snapshots.{Snapshot, source_at, source_of}
-use Rattle.mt_files.specs.declared.build_fault.BuildFault.{BuildFault}
-use Rattle.mt_files.specs.declared.build_fault.BuildFault.TheVariants.{EntryMissing, TooManyModules}
-use Rattle.mt_files.specs.declared.file_map.Entry.{Entry}
-use Rattle.mt_files.proofs.Reaches.{Has, has_filter, has_key, same_path}
-use Rattle.mt_fresh.specs.Graphs.{GraphMap, found_of, fresh_graph, graph_of, module_at}
-use Rattle.mt_fresh.specs.Output.{output_of}
-use Rattle.mt_fresh.specs.declared.graph.Found.{Found}
-use Rattle.mt_files.proofs.Unions.{has_ascending}
-use Rattle.mt_fresh.proofs.Explores.{append_left}
-use Rattle.mt_fresh.proofs.Targets.{first_none, rest_none}
-use Rattle.mt_revision.specs.Numberings.{extended, has_path, with_new}
+use Rattle.m0_io.proofs.Children.{tied_is}
+use Rattle.m0_tokens.specs.Transform.{transformed}
+use Rattle.m0_files.specs.Edges.{faults_at, kind_of, made_faults}
+use Rattle.m0_files.specs.Fresh.{all_faults, decided, members}
+use Rattle.m0_files.specs.Reach.{reach}
+use Rattle.m0_files.specs.Snapshots.{Snapshot, source_at, source_of}
+use Rattle.m0_files.specs.declared.build_fault.BuildFault.{BuildFault}
+use Rattle.m0_files.specs.declared.build_fault.BuildFault.TheVariants.{EntryMissing, TooManyModules}
+use Rattle.m0_files.specs.declared.file_map.Entry.{Entry}
+use Rattle.m0_files.proofs.Reaches.{Has, has_filter, has_key, same_path}
+use Rattle.m0_fresh.specs.Graphs.{GraphMap, found_of, fresh_graph, graph_of, module_at}
+use Rattle.m0_fresh.specs.Output.{output_of}
+use Rattle.m0_fresh.specs.declared.graph.Found.{Found}
+use Rattle.m0_files.proofs.Unions.{has_ascending}
+use Rattle.m0_fresh.proofs.Explores.{append_left}
+use Rattle.m0_fresh.proofs.Targets.{first_none, rest_none}
+use Rattle.m0_revision.specs.Numberings.{extended, has_path, with_new}
 
 -- ---- a graph that was found
 

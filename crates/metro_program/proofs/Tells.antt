@@ -1,6 +1,6 @@
 -- What a run tells of its ending.
 use Rattle.std.proofs.Common.{inl, inr, ◌⊎◌, ◌≡◌, ℕ, List, Option, Result, Ok, Err, subst, arith, refl, sym, ◌∙◌}
-use Rattle.mt_io.specs.Told.{Grows}
+use Rattle.m0_io.specs.Told.{Grows}
 use Rattle.metro_program.specs.declared.ending.Ending.{Ending}
 use Rattle.metro_program.specs.declared.ending.Ending.TheVariants.{BadCommand, BadWord, CutCommand, Done, Limit, NoMemory, ReadFailed, Refused, WriteFailed}
 use Rattle.metro_program.specs.Ending.{IsAnswer, IsAnswered, line_of, status_of}

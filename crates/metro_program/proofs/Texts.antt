@@ -5,9 +5,9 @@ use Rattle.std.specs.Ordering.{nat_cmp}
 use Rattle.std.specs.Cmp.{nat_cmp_total}
 use Rattle.std.specs.FinMap.{entries, len, len-entries}
 use Rattle.std.proofs.lemmas.List.{length-map}
-use Rattle.mt_io.proofs.Tables.{entries_by, keys_sorted}
-use Rattle.mt_revision.specs.Texts.{Modules, text_in, texts_of}
-use Rattle.mt_revision.specs.declared.modules.Module.{Module}
+use Rattle.m0_io.proofs.Tables.{entries_by, keys_sorted}
+use Rattle.m0_revision.specs.Texts.{Modules, text_in, texts_of}
+use Rattle.m0_revision.specs.declared.modules.Module.{Module}
 
 -- three pieces behind a line
 pub three_pieces : (line xs ys zs : List ℕ) → ((line ++ xs) ++ ys) ++ zs ≡ line ++ ((xs ++ ys) ++ zs)

@@ -1,7 +1,7 @@
 -- The status and the line of an ending.
 use Rattle.std.specs.Prelude.{◌≡◌, ◌<◌, ◌⊎◌, ℕ, List, [], ◌++◌, codes}
 use Rattle.std.specs.Fmt.{decimal}
-use Rattle.mt_fresh.specs.FaultText.{text_of}
+use Rattle.m0_fresh.specs.FaultText.{text_of}
 use Rattle.metro_program.specs.declared.ending.Ending.{Ending}
 use Rattle.metro_program.specs.declared.ending.Ending.TheVariants as ending
 use Rattle.metro_program.specs.declared.ending.Limit.{Limit}

@@ -3,17 +3,17 @@ use Rattle.std.specs.Prelude.{◌≡◌, ◌≤◌, ◌==◌, ◌++◌, ℕ, tru
 use Rattle.std.specs.List.{filter_map, fold}
 use Rattle.std.specs.Option.{option_map_or}
 use Rattle.std.specs.FinMap.{empty, keys}
-use Rattle.mt_io.specs.Files.{Files}
-use Rattle.mt_files.specs.Snapshots.{Snapshot}
-use Rattle.mt_files.specs.Changes.{stepped_by}
-use Rattle.mt_files.specs.declared.build_fault.BuildFault.{BuildFault}
-use Rattle.mt_fresh.specs.Graphs.{GraphMap, fresh_graph}
-use Rattle.mt_revision.specs.Builds.{bundle_in}
-use Rattle.mt_revision.specs.Logs.{Denied, IsLegal, LogEntry, Published, Reached, Revised, unlogged}
-use Rattle.mt_revision.specs.Numberings.{extended}
-use Rattle.mt_revision.specs.Texts.{Texts}
-use Rattle.mt_script.specs.declared.command.Command.{Command}
-use Rattle.mt_script.specs.declared.command.Command.TheVariants.{Put, Del, Rescan, Build, End}
+use Rattle.m0_io.specs.Files.{Files}
+use Rattle.m0_files.specs.Snapshots.{Snapshot}
+use Rattle.m0_files.specs.Changes.{stepped_by}
+use Rattle.m0_files.specs.declared.build_fault.BuildFault.{BuildFault}
+use Rattle.m0_fresh.specs.Graphs.{GraphMap, fresh_graph}
+use Rattle.m0_revision.specs.Builds.{bundle_in}
+use Rattle.m0_revision.specs.Logs.{Denied, IsLegal, LogEntry, Published, Reached, Revised, unlogged}
+use Rattle.m0_revision.specs.Numberings.{extended}
+use Rattle.m0_revision.specs.Texts.{Texts}
+use Rattle.m0_script.specs.declared.command.Command.{Command}
+use Rattle.m0_script.specs.declared.command.Command.TheVariants.{Put, Del, Rescan, Build, End}
 use Rattle.metro_program.specs.declared.ending.Ending.{Ending}
 use Rattle.metro_program.specs.Reports.{refused_line, revision_line, same_line}
 use Rattle.metro_program.specs.Replay.{Standing, Step, built, moved, opened, published_in}

@@ -1,16 +1,16 @@
 -- What a run comes to: the statuses and their reasons, in the words and the files of a folder.
 use Rattle.std.specs.Prelude.{◌≡◌, ◌≢◌, ◌⊎◌, ℕ, true, List, [], ◌∷◌, Result, Ok, Err, Option, None}
-use Rattle.mt_io.specs.Causes.{Rose}
-use Rattle.mt_io.specs.Files.{Files}
-use Rattle.mt_io.specs.Told.{Grows}
-use Rattle.mt_files.specs.Snapshots.{Snapshot}
-use Rattle.mt_files.specs.Crawl.{crawled}
-use Rattle.mt_fresh.specs.Graphs.{GraphMap, fresh_graph}
-use Rattle.mt_files.specs.declared.build_fault.BuildFault.{BuildFault}
-use Rattle.mt_files.specs.declared.fault.CrawlFault.{CrawlFault}
+use Rattle.m0_io.specs.Causes.{Rose}
+use Rattle.m0_io.specs.Files.{Files}
+use Rattle.m0_io.specs.Told.{Grows}
+use Rattle.m0_files.specs.Snapshots.{Snapshot}
+use Rattle.m0_files.specs.Crawl.{crawled}
+use Rattle.m0_fresh.specs.Graphs.{GraphMap, fresh_graph}
+use Rattle.m0_files.specs.declared.build_fault.BuildFault.{BuildFault}
+use Rattle.m0_files.specs.declared.fault.CrawlFault.{CrawlFault}
 use Rattle.metro_program.specs.declared.words.Request.{Request}
 use Rattle.metro_program.specs.declared.words.Request.TheVariants.{Bundle, Replay}
-use Rattle.mt_script.specs.Scripts.{script_of}
+use Rattle.m0_script.specs.Scripts.{script_of}
 use Rattle.metro_program.specs.Ending.{status_of}
 use Rattle.metro_program.specs.Words.{words_of}
 use Rattle.metro_program.specs.Still.{reads_script, still}

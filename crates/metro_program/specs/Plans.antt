@@ -1,12 +1,12 @@
 -- How a run ends, and the bytes that it writes to the output.
 use Rattle.std.specs.Prelude.{ℕ, List, [], ◌++◌, nat_lt, if◌then◌else◌}
-use Rattle.mt_files.specs.Journals.{most_changes}
-use Rattle.mt_files.specs.declared.fault.CrawlFault.{CrawlFault}
-use Rattle.mt_files.specs.declared.fault.CrawlFault.TheVariants as crawl
-use Rattle.mt_files.specs.declared.journal.JournalFault.{JournalFault}
-use Rattle.mt_files.specs.declared.journal.JournalFault.TheVariants as journal
-use Rattle.mt_script.specs.declared.fault.ScriptFault.{ScriptFault}
-use Rattle.mt_script.specs.declared.fault.ScriptFault.TheVariants as script
+use Rattle.m0_files.specs.Journals.{most_changes}
+use Rattle.m0_files.specs.declared.fault.CrawlFault.{CrawlFault}
+use Rattle.m0_files.specs.declared.fault.CrawlFault.TheVariants as crawl
+use Rattle.m0_files.specs.declared.journal.JournalFault.{JournalFault}
+use Rattle.m0_files.specs.declared.journal.JournalFault.TheVariants as journal
+use Rattle.m0_script.specs.declared.fault.ScriptFault.{ScriptFault}
+use Rattle.m0_script.specs.declared.fault.ScriptFault.TheVariants as script
 use Rattle.metro_program.specs.declared.ending.Ending.{Ending}
 use Rattle.metro_program.specs.declared.ending.Ending.TheVariants.{ReadFailed, NoMemory, Limit, BadCommand, CutCommand}
 use Rattle.metro_program.specs.declared.ending.Limit.TheVariants.{File, Files, FolderBytes, Changes, JournalBytes, Commands}

@@ -3,26 +3,26 @@ use Rattle.std.specs.Prelude.{ℕ, true, List, [], ◌∷◌, ◌++◌, ◌==◌
 use Rattle.std.specs.List.{fold}
 use Rattle.std.specs.Option.{option_map_or}
 use Rattle.std.specs.FinMap.{empty, keys}
-use Rattle.mt_io.specs.Files.{Files}
-use Rattle.mt_files.specs.Snapshots.{Snapshot}
-use Rattle.mt_files.specs.Crawl.{crawled, entry_of}
-use Rattle.mt_files.specs.Changes.{stepped}
-use Rattle.mt_files.specs.Journals.{push_answer}
-use Rattle.mt_files.specs.Rescans.{rescanned}
-use Rattle.mt_files.specs.declared.build_fault.BuildFault.{BuildFault}
-use Rattle.mt_files.specs.declared.fault.CrawlFault.{CrawlFault}
-use Rattle.mt_files.specs.declared.journal.JournalFault.{JournalFault}
-use Rattle.mt_files.specs.declared.change.Change.{Change}
-use Rattle.mt_files.specs.declared.change.Change.TheVariants as change
-use Rattle.mt_fresh.specs.Graphs.{GraphMap, fresh_graph}
-use Rattle.mt_revision.specs.Numberings.{extended}
-use Rattle.mt_revision.specs.Texts.{Texts}
-use Rattle.mt_revision.specs.Builds.{held_in, bundle_in}
-use Rattle.mt_revision.specs.Logs.{Published, number_after}
-use Rattle.mt_script.specs.Scripts.{Script, script_from}
-use Rattle.mt_script.specs.declared.command.Command.{Command}
-use Rattle.mt_script.specs.declared.command.Command.TheVariants.{Put, Del, Rescan, Build, End}
-use Rattle.mt_script.specs.declared.fault.ScriptFault.{ScriptFault}
+use Rattle.m0_io.specs.Files.{Files}
+use Rattle.m0_files.specs.Snapshots.{Snapshot}
+use Rattle.m0_files.specs.Crawl.{crawled, entry_of}
+use Rattle.m0_files.specs.Changes.{stepped}
+use Rattle.m0_files.specs.Journals.{push_answer}
+use Rattle.m0_files.specs.Rescans.{rescanned}
+use Rattle.m0_files.specs.declared.build_fault.BuildFault.{BuildFault}
+use Rattle.m0_files.specs.declared.fault.CrawlFault.{CrawlFault}
+use Rattle.m0_files.specs.declared.journal.JournalFault.{JournalFault}
+use Rattle.m0_files.specs.declared.change.Change.{Change}
+use Rattle.m0_files.specs.declared.change.Change.TheVariants as change
+use Rattle.m0_fresh.specs.Graphs.{GraphMap, fresh_graph}
+use Rattle.m0_revision.specs.Numberings.{extended}
+use Rattle.m0_revision.specs.Texts.{Texts}
+use Rattle.m0_revision.specs.Builds.{held_in, bundle_in}
+use Rattle.m0_revision.specs.Logs.{Published, number_after}
+use Rattle.m0_script.specs.Scripts.{Script, script_from}
+use Rattle.m0_script.specs.declared.command.Command.{Command}
+use Rattle.m0_script.specs.declared.command.Command.TheVariants.{Put, Del, Rescan, Build, End}
+use Rattle.m0_script.specs.declared.fault.ScriptFault.{ScriptFault}
 use Rattle.metro_program.specs.declared.ending.Ending.{Ending}
 use Rattle.metro_program.specs.declared.ending.Ending.TheVariants.{Done, Refused}
 use Rattle.metro_program.specs.Reports.{revision_line, same_line, refused_line}

@@ -4,11 +4,11 @@ use Rattle.std.specs.Fmt.{decimal}
 use Rattle.std.specs.FinMap.{len}
 use Rattle.sha2.specs.Sha256.{sha256}
 use Rattle.hex.specs.Hex.{encode_lower}
-use Rattle.mt_files.specs.declared.build_fault.BuildFault.{BuildFault}
-use Rattle.mt_fresh.specs.FaultText.{text_of}
-use Rattle.mt_revision.specs.Texts.{Texts}
-use Rattle.mt_revision.specs.Held.{Delta, delta}
-use Rattle.mt_revision.specs.Logs.{Published}
+use Rattle.m0_files.specs.declared.build_fault.BuildFault.{BuildFault}
+use Rattle.m0_fresh.specs.FaultText.{text_of}
+use Rattle.m0_revision.specs.Texts.{Texts}
+use Rattle.m0_revision.specs.Held.{Delta, delta}
+use Rattle.m0_revision.specs.Logs.{Published}
 
 -- a name and a number
 abbrev pub field : List ℕ → ℕ → List ℕ

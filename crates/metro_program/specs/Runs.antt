@@ -1,8 +1,8 @@
 -- How far a replay has come in its script.
 use Rattle.std.specs.Prelude.{◌≡◌, ◌++◌, ℕ, List, Option, Some}
-use Rattle.mt_io.specs.Files.{Files}
-use Rattle.mt_io.specs.Told.{Grows, GrowsByPrefix, Reading}
-use Rattle.mt_script.specs.Reads.{Progress}
+use Rattle.m0_io.specs.Files.{Files}
+use Rattle.m0_io.specs.Told.{Grows, GrowsByPrefix, Reading}
+use Rattle.m0_script.specs.Reads.{Progress}
 use Rattle.metro_program.specs.declared.ending.Ending.{Ending}
 use Rattle.metro_program.specs.Ending.{IsAnswer}
 use Rattle.metro_program.specs.Plans.{Plan, with_bytes}

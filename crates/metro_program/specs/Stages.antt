@@ -4,13 +4,13 @@ use Rattle.std.specs.Option.{option_map, IfSome}
 use Rattle.std.specs.FinMap.{contains_key}
 use Rattle.std.specs.List.{IsDistinct}
 use Rattle.std.specs.Str.{bytes_eq}
-use Rattle.mt_io.specs.Told.{Grows, GrowsByPrefix}
-use Rattle.mt_files.specs.Changes.{path_of}
-use Rattle.mt_files.specs.declared.change.Change.{Change}
-use Rattle.mt_revision.specs.Logs.{Published}
-use Rattle.mt_revision.specs.Numberings.{has_path}
-use Rattle.mt_revision.specs.Revisions.{held_of}
-use Rattle.mt_revision.specs.declared.revision.Revision.{Revision}
+use Rattle.m0_io.specs.Told.{Grows, GrowsByPrefix}
+use Rattle.m0_files.specs.Changes.{path_of}
+use Rattle.m0_files.specs.declared.change.Change.{Change}
+use Rattle.m0_revision.specs.Logs.{Published}
+use Rattle.m0_revision.specs.Numberings.{has_path}
+use Rattle.m0_revision.specs.Revisions.{held_of}
+use Rattle.m0_revision.specs.declared.revision.Revision.{Revision}
 use Rattle.metro_program.specs.declared.ending.Ending.{Ending}
 use Rattle.metro_program.specs.declared.stage.Stage.{Stage}
 use Rattle.metro_program.specs.Replay.{Standing, Step}

@@ -2,15 +2,15 @@
 use Rattle.std.specs.Prelude.{◌≡◌, ◌⊎◌, ℕ, Bool, true, false, List, [], ◌∷◌, Some, Result, Ok, Err, Option}
 use Rattle.std.specs.FinMap.{keys}
 use Rattle.std.specs.Option.{option_map}
-use Rattle.mt_io.specs.Files.{Files}
-use Rattle.mt_io.specs.Told.{Grows, Reading}
-use Rattle.mt_files.specs.Snapshots.{Snapshot}
-use Rattle.mt_files.specs.Crawl.{crawled}
-use Rattle.mt_files.specs.declared.build_fault.BuildFault.{BuildFault}
-use Rattle.mt_files.specs.declared.fault.CrawlFault.{CrawlFault}
-use Rattle.mt_fresh.specs.Graphs.{GraphMap, fresh_graph}
-use Rattle.mt_revision.specs.Builds.{bundle_in}
-use Rattle.mt_revision.specs.Numberings.{extended}
+use Rattle.m0_io.specs.Files.{Files}
+use Rattle.m0_io.specs.Told.{Grows, Reading}
+use Rattle.m0_files.specs.Snapshots.{Snapshot}
+use Rattle.m0_files.specs.Crawl.{crawled}
+use Rattle.m0_files.specs.declared.build_fault.BuildFault.{BuildFault}
+use Rattle.m0_files.specs.declared.fault.CrawlFault.{CrawlFault}
+use Rattle.m0_fresh.specs.Graphs.{GraphMap, fresh_graph}
+use Rattle.m0_revision.specs.Builds.{bundle_in}
+use Rattle.m0_revision.specs.Numberings.{extended}
 use Rattle.metro_program.specs.declared.ending.Ending.{Ending}
 use Rattle.metro_program.specs.declared.ending.Ending.TheVariants.{Done, Refused, BadWord, ReadFailed, WriteFailed, NoMemory}
 use Rattle.metro_program.specs.declared.words.Request.{Request}

@@ -3,8 +3,8 @@ use Rattle.std.specs.Prelude.{ℕ, Bool, true, ◌==◌, List, [], ◌∷◌, le
 use Rattle.std.specs.Option.{option_map_or, option_and_then}
 use Rattle.std.specs.Result.{result_ok}
 use Rattle.std.specs.Str.{bytes_eq}
-use Rattle.mt_path.specs.Parse.{parsed}
-use Rattle.mt_path.specs.Names.{is_root}
+use Rattle.m0_path.specs.Parse.{parsed}
+use Rattle.m0_path.specs.Names.{is_root}
 use Rattle.metro_program.specs.declared.words.Request.{Request}
 use Rattle.metro_program.specs.declared.words.Request.TheVariants.{Bundle, Replay}
 

@@ -3,24 +3,24 @@ ghost use Rattle.std.specs.Prelude.{◌≡◌, ◌≤◌, [], ◌∷◌, Ok, IfO
 ghost use Rattle.std.specs.List.{IsDistinct};
 ghost use Rattle.std.specs.Str.{bytes_eq};
 ghost use Rattle.std.specs.FinMap as map;
-ghost use Rattle.mt_io.specs.Causes.{HasCause, Rose};
-ghost use Rattle.mt_io.specs.Files.{Files};
-ghost use Rattle.mt_io.specs.Told.{Grows, GrowsByPrefix};
-ghost use Rattle.mt_files.specs.Crawl.{crawled};
-ghost use Rattle.mt_fresh.specs.Graphs.{fresh_graph};
-ghost use Rattle.mt_revision.specs.Builds.{bundle_in};
-ghost use Rattle.mt_revision.specs.Numberings.{extended};
-ghost use Rattle.mt_revision.specs.Revisions.{bundle_of};
+ghost use Rattle.m0_io.specs.Causes.{HasCause, Rose};
+ghost use Rattle.m0_io.specs.Files.{Files};
+ghost use Rattle.m0_io.specs.Told.{Grows, GrowsByPrefix};
+ghost use Rattle.m0_files.specs.Crawl.{crawled};
+ghost use Rattle.m0_fresh.specs.Graphs.{fresh_graph};
+ghost use Rattle.m0_revision.specs.Builds.{bundle_in};
+ghost use Rattle.m0_revision.specs.Numberings.{extended};
+ghost use Rattle.m0_revision.specs.Revisions.{bundle_of};
 ghost use Rattle.metro_program.specs.Ending.{IsAnswer, IsBadWord};
 ghost use Rattle.metro_program.specs.Still.{bundle_plan, graph_plan};
 
 use crate::OPTIONS;
 use crate::ending::{Ending, unread};
-use mt_files::{BuildFault, FileMap, crawl};
-use mt_fresh::{Graph, traverse};
-use mt_io::{Folder, Sink, Trouble};
-use mt_path::Path;
-use mt_revision::{Numbering, Revision, write_bundle};
+use m0_files::{BuildFault, FileMap, crawl};
+use m0_fresh::{Graph, traverse};
+use m0_io::{Folder, Sink, Trouble};
+use m0_path::Path;
+use m0_revision::{Numbering, Revision, write_bundle};
 use std::alloc::{AllocError, Global};
 
 /// The first revision of a graph.
@@ -36,7 +36,7 @@ fn first_revision(alloc: Global, entries: &[Path], graph: Graph) -> Result<Revis
 }
 
 /// Writes the bundle of a graph's first revision.
-#[tactic(auto, using(mt_io::proofs::Growth::part_none))]
+#[tactic(auto, using(m0_io::proofs::Growth::part_none))]
 fn bundle_graph<O: Sink>(
     alloc: Global,
     entries: &[Path],

@@ -1,9 +1,9 @@
 //! The length and the digest of what is written.
 ghost use Rattle.std.specs.Prelude.{◌≡◌, [], ◌∷◌, ◌++◌, ◌≤◌, ◌<◌, length, take, IfOk, OnOk, OnErr, Some, None};
 ghost use Rattle.sha2.specs.Sha256.{sha256};
-ghost use Rattle.mt_io.specs.Causes.{HasOneCause};
+ghost use Rattle.m0_io.specs.Causes.{HasOneCause};
 
-use mt_io::{Failed, Sink};
+use m0_io::{Failed, Sink};
 use sha2::{Digest, Sha256};
 use std::alloc::{AllocError, Global};
 use std::marker::Model;

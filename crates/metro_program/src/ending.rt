@@ -3,9 +3,9 @@ ghost use Rattle.std.specs.Prelude.{◌≡◌, ◌++◌, codes, decimal, IfOk};
 ghost use Rattle.metro_program.specs.Ending.{status_of, line_of, limit_of};
 ghost use Rattle.metro_program.specs.Plans.{crawl_ending, journal_ending};
 
-use mt_files::{BuildFault, CrawlFault, JournalFault, MOST_CHANGES};
-use mt_fresh::fault_text;
-use mt_tokens::Text;
+use m0_files::{BuildFault, CrawlFault, JournalFault, MOST_CHANGES};
+use m0_fresh::fault_text;
+use m0_tokens::Text;
 use std::alloc::{AllocError, Global};
 
 /// A stated limit that a folder met.

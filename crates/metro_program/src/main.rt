@@ -14,9 +14,9 @@ mod still;
 mod tests;
 mod words;
 
-use mt_fresh::Options;
-use mt_io::{FreeGate, send_all};
-use mt_tokens::Text;
+use m0_fresh::Options;
+use m0_io::{FreeGate, send_all};
+use m0_tokens::Text;
 use real::{NoStore, RealFolder, RealSink, RealSource};
 use std::env;
 use std::io::{self, ErrorKind};

@@ -1,11 +1,11 @@
 //! The real folder, store and streams. They tell nothing of what they hold.
 ghost use Rattle.std.specs.Prelude.{◌≡◌, ◌≤◌, None};
-ghost use Rattle.mt_io.specs.Causes.{Rose};
+ghost use Rattle.m0_io.specs.Causes.{Rose};
 
-use mt_files::MOST_SOURCE_BYTES;
-use mt_io::{Failed, Folder, Named, NamedKind, NamedList, Sink, Source, Store, Trouble};
-use mt_path::Path;
-use mt_tokens::{Bytes, Text};
+use m0_files::MOST_SOURCE_BYTES;
+use m0_io::{Failed, Folder, Named, NamedKind, NamedList, Sink, Source, Store, Trouble};
+use m0_path::Path;
+use m0_tokens::{Bytes, Text};
 use std::alloc::{AllocError, Global};
 use std::fs::{self, File};
 use std::io::{self, ErrorKind, Read, Write};

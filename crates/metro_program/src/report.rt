@@ -2,16 +2,16 @@
 ghost use Rattle.std.specs.Prelude.{◌≡◌, ◌++◌, length, IfOk, OnOk, option_copied};
 ghost use Rattle.sha2.specs.Sha256.{sha256};
 ghost use Rattle.hex.specs.Hex.{encode_lower};
-ghost use Rattle.mt_revision.specs.Held.{delta, touched_between};
-ghost use Rattle.mt_revision.specs.Revisions.{bundle_of, held_before, held_of};
+ghost use Rattle.m0_revision.specs.Held.{delta, touched_between};
+ghost use Rattle.m0_revision.specs.Revisions.{bundle_of, held_before, held_of};
 ghost use Rattle.metro_program.specs.Reports.{bundle_text, delta_text, field, refused_line, revision_line, same_line};
 ghost use Rattle.metro_program.specs.Stages.{published_of};
 
 use crate::digest::DigestSink;
-use mt_files::BuildFault;
-use mt_fresh::fault_text;
-use mt_revision::{Revision, write_bundle};
-use mt_tokens::Text;
+use m0_files::BuildFault;
+use m0_fresh::fault_text;
+use m0_revision::{Revision, write_bundle};
+use m0_tokens::Text;
 use std::alloc::{AllocError, Global};
 
 /// The length and the digest of a bundle, of which no byte is kept.

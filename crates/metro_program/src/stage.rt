@@ -2,24 +2,24 @@
 ghost use Rattle.std.specs.Prelude.{◌≡◌, ◌≤◌, ◌⊎◌, ◌++◌, Some, Ok, Err, IfOk, IfErr, OnOk, IsErrOf, length};
 ghost use Rattle.std.specs.List.{All};
 ghost use Rattle.std.specs.FinMap as map;
-ghost use Rattle.mt_io.specs.Causes.{Rose};
-ghost use Rattle.mt_io.specs.Files.{Files};
-ghost use Rattle.mt_path.specs.Names.{is_source};
-ghost use Rattle.mt_files.specs.Changes.{IsChange};
-ghost use Rattle.mt_files.specs.Crawl.{entry_of};
-ghost use Rattle.mt_files.specs.Rescans.{rescanned};
-ghost use Rattle.mt_files.specs.declared.change.Change.TheVariants as change;
+ghost use Rattle.m0_io.specs.Causes.{Rose};
+ghost use Rattle.m0_io.specs.Files.{Files};
+ghost use Rattle.m0_path.specs.Names.{is_source};
+ghost use Rattle.m0_files.specs.Changes.{IsChange};
+ghost use Rattle.m0_files.specs.Crawl.{entry_of};
+ghost use Rattle.m0_files.specs.Rescans.{rescanned};
+ghost use Rattle.m0_files.specs.declared.change.Change.TheVariants as change;
 ghost use Rattle.metro_program.specs.Ending.{status_of};
 ghost use Rattle.metro_program.specs.Plans.{crawl_ending, journal_ending};
 ghost use Rattle.metro_program.specs.Replay.{changed, changed_by, opened, rescanned_by};
 ghost use Rattle.metro_program.specs.Stages.{IsBounded, IsMove, standing};
 
 use crate::ending::{Ending, full, unread};
-use mt_files::{Change, ChangeList, Entry, FileMap, Journal, rescan};
-use mt_io::Folder;
-use mt_path::Path;
-use mt_revision::{Numbering, Revision};
-use mt_tokens::{Bytes, Shared};
+use m0_files::{Change, ChangeList, Entry, FileMap, Journal, rescan};
+use m0_io::Folder;
+use m0_path::Path;
+use m0_revision::{Numbering, Revision};
+use m0_tokens::{Bytes, Shared};
 use std::alloc::{AllocError, Global};
 
 /// Where a replay stands.

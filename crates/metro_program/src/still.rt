@@ -1,12 +1,12 @@
 //! The commands that run over objects that are handed in.
 ghost use Rattle.std.specs.Prelude.{◌≡◌, ◌≤◌, ◌⊎◌, ℕ, List, [], ◌∷◌, true, false, IfOk, IsErr, Ok, Some};
-ghost use Rattle.mt_io.specs.Causes.{Rose};
-ghost use Rattle.mt_io.specs.Told.{Grows, GrowsByPrefix, Reading};
-ghost use Rattle.mt_io.specs.Files.{Files};
-ghost use Rattle.mt_files.specs.Crawl.{crawled};
-ghost use Rattle.mt_files.specs.Snapshots.{Snapshot};
-ghost use Rattle.mt_script.specs.Scripts.{script_of};
-ghost use Rattle.mt_script.specs.declared.command.Command.{Command};
+ghost use Rattle.m0_io.specs.Causes.{Rose};
+ghost use Rattle.m0_io.specs.Told.{Grows, GrowsByPrefix, Reading};
+ghost use Rattle.m0_io.specs.Files.{Files};
+ghost use Rattle.m0_files.specs.Crawl.{crawled};
+ghost use Rattle.m0_files.specs.Snapshots.{Snapshot};
+ghost use Rattle.m0_script.specs.Scripts.{script_of};
+ghost use Rattle.m0_script.specs.declared.command.Command.{Command};
 ghost use Rattle.metro_program.specs.Words.{words_of};
 ghost use Rattle.metro_program.specs.Ending.{IsAnswer, IsAnswered, IsBadWord, status_of, line_of};
 ghost use Rattle.metro_program.specs.Still.{HasScript, IsFaultLine, IsRefusedUnread, first_bundle, reads_script, still};
@@ -18,8 +18,8 @@ use crate::bundle::run_bundle;
 use crate::ending::Ending;
 use crate::replay::run_replay;
 use crate::words::{Request, read_words};
-use mt_io::{Folder, Gate, Sink, Source, Store, send_all};
-use mt_tokens::Text;
+use m0_io::{Folder, Gate, Sink, Source, Store, send_all};
+use m0_tokens::Text;
 use std::alloc::Global;
 use std::thread::Threads;
 

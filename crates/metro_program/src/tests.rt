@@ -12,9 +12,9 @@ mod written;
 
 use crate::real::NoStore;
 use crate::still::metro_still;
-use mt_io::{FreeGate, ListSource, MapFolder, VecSink};
-use mt_path::Path;
-use mt_tokens::{Bytes, Text};
+use m0_io::{FreeGate, ListSource, MapFolder, VecSink};
+use m0_path::Path;
+use m0_tokens::{Bytes, Text};
 use std::alloc::{AllocError, Global};
 use std::collections::BTreeMap;
 use std::thread::Threads;

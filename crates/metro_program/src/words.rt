@@ -2,8 +2,8 @@
 ghost use Rattle.std.specs.Prelude.{◌≡◌, false, IfOk};
 ghost use Rattle.metro_program.specs.Words.{is_odd, rooted, entry_of, entry_words, words_of};
 
-use mt_path::{Path, PathFault};
-use mt_tokens::Text;
+use m0_path::{Path, PathFault};
+use m0_tokens::Text;
 use std::alloc::{AllocError, Global};
 
 /// What is asked for.

@@ -9,12 +9,12 @@ use Rattle.mt_files.specs.declared.journal.JournalFault.TheVariants.{JournalFull
 use Rattle.mt_files.specs.Changes.{IsChange}
 
 -- the most changes of a journal
-abbrev pub most_changes : ℕ
-most_changes = 65536
+abbrev pub max_changes : ℕ
+max_changes = 65536
 
 -- the most bytes that the sources put by the changes of a journal have together
-abbrev pub most_journal_bytes : ℕ
-most_journal_bytes = 1073741824
+abbrev pub max_journal_bytes : ℕ
+max_journal_bytes = 1073741824
 
 -- the bytes of the source that a change puts: none where it puts no source
 abbrev pub bytes_of : Change → ℕ
@@ -28,12 +28,12 @@ journal_bytes changes = sum_by bytes_of changes
 -- changes that a journal may hold: each is one, and they are within both limits
 pub record IsJournal (changes : List Change) : Type 0 where
   pub each : All IsChange changes
-  pub few : length changes ≤ most_changes
-  pub bounded : journal_bytes changes ≤ most_journal_bytes
+  pub few : length changes ≤ max_changes
+  pub bounded : journal_bytes changes ≤ max_journal_bytes
 
 -- whether a journal has no room for one more change
 abbrev pub is_full : List Change → Change → Bool
-is_full changes change = not (nat_lt (length changes) most_changes) || nat_lt most_journal_bytes (journal_bytes changes + bytes_of change)
+is_full changes change = not (nat_lt (length changes) max_changes) || nat_lt max_journal_bytes (journal_bytes changes + bytes_of change)
 
 -- how a journal without room says so: the changes that it holds, and their bytes
 abbrev pub full : List Change → JournalFault

@@ -1,9 +1,9 @@
 -- A rescan: the changes that lead from a snapshot to what a folder has now.
 use Rattle.std.specs.Prelude.{ℕ, Bool, true, false, ◌≢◌, List, ◌++◌, Option, Some, None, Result, Ok, Err, if◌then◌else◌}
-use Rattle.std.specs.List.{filter_map, fold}
+use Rattle.std.specs.List.{filter_map}
 use Rattle.std.specs.Option.{option_eq}
 use Rattle.std.specs.Str.{bytes_eq}
-use Rattle.std.specs.FinMap.{get, insert, keys}
+use Rattle.std.specs.FinMap.{get, keys}
 use Rattle.mt_io.specs.Files.{Files}
 use Rattle.mt_files.specs.declared.file_map.Entry.{Entry}
 use Rattle.mt_files.specs.declared.file_map.Entry.TheVariants.{Source, Other}
@@ -12,7 +12,6 @@ use Rattle.mt_files.specs.declared.change.Change.TheVariants.{Put, Del}
 use Rattle.mt_files.specs.declared.fault.CrawlFault.{CrawlFault}
 use Rattle.mt_files.specs.Snapshots.{Snapshot}
 use Rattle.mt_files.specs.Changes.{entry_after, path_of}
-use Rattle.mt_files.specs.Walks.{Paths}
 use Rattle.mt_files.specs.Crawl.{crawled}
 use Rattle.mt_files.specs.Fresh.{ascending}
 
@@ -48,13 +47,3 @@ rescanned files tree = changes_to files (crawled tree)
 -- a change that does not leave a snapshot as it is
 abbrev pub HasEffect : Snapshot → Change → Type 0
 HasEffect files change = entry_after change ≢ get files (path_of change)
-
--- ---- how the paths are gathered
-
--- a set of paths with one more
-abbrev pub with_path : Paths → List ℕ → Paths
-with_path paths path = insert paths path tt
-
--- a set of paths with more of them
-abbrev pub with_paths : Paths → List (List ℕ) → Paths
-with_paths paths more = fold with_path paths more

@@ -5,6 +5,7 @@ use Rattle.std.specs.Cmp.Lexicographic.{slice_cmp}
 use Rattle.std.specs.FinMap.{FinMap, get}
 use Rattle.mt_path.specs.Parse.{IsPath}
 use Rattle.mt_path.specs.Names.{is_source}
+use Rattle.mt_tokens.specs.Sources.{max_source_bytes}
 use Rattle.mt_files.specs.declared.file_map.Entry.{Entry}
 use Rattle.mt_files.specs.declared.file_map.Entry.TheVariants.{Source, Other}
 
@@ -12,13 +13,9 @@ use Rattle.mt_files.specs.declared.file_map.Entry.TheVariants.{Source, Other}
 abbrev pub Snapshot : Type 0
 Snapshot = FinMap (slice_cmp nat_cmp) Entry
 
--- the most bytes of a source
-abbrev pub most_source_bytes : ℕ
-most_source_bytes = 16777216
-
 -- an entry that a file of this path may have: a source with its bytes, if the path is one of a source
 abbrev pub IsEntryOf : List ℕ → Entry → Type 0
-IsEntryOf path (Source bytes) = (is_source path ≡ true) × (length bytes ≤ most_source_bytes)
+IsEntryOf path (Source bytes) = (is_source path ≡ true) × (length bytes ≤ max_source_bytes)
 IsEntryOf path Other = is_source path ≡ false
 
 -- each key is a path, with an entry that its file may have
@@ -35,6 +32,6 @@ source_of (Some Other) = None
 abbrev pub source_at : Snapshot → List ℕ → Option (List ℕ)
 source_at files path = source_of (get files path)
 
--- whether a source stands at a path
+-- whether a source is at a path
 abbrev pub has_source : Snapshot → List ℕ → Bool
 has_source files path = is_some (source_at files path)

@@ -34,7 +34,7 @@ impl Change {
         ensures bytes { result ≡ bytes_of self.now }
     {
         match self {
-            Change::Put(_, Entry::Source(bytes)) => bytes.get().len(),
+            Change::Put(_, Entry::Source(bytes)) => bytes.len(),
             _ => 0,
         }
     }
@@ -70,7 +70,7 @@ impl ChangeList {
         }
     }
 
-    /// Adds a change at the end. Refused only for want of memory; then the list is as it was.
+    /// Adds a change at the end. Refused only where memory runs out; then the list is as it was.
     pub fn push(&mut self, change: Change) -> Result<(), AllocError>
         requires change { IsChange change }
         ensures ok { OnOk result (self.new ≡ self.old ++ change ∷ []) }

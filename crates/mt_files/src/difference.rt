@@ -1,23 +1,20 @@
 //! The changes between two snapshots, and the rescan of a folder.
-ghost use Rattle.std.specs.Prelude.{◌≡◌, ◌≤◌, ◌⊎◌, ◌++◌, Some, IfOk, IfSome, IsErrOf, Err};
+ghost use Rattle.std.specs.Prelude.{◌≡◌, ◌⊎◌, ◌++◌, IfOk, IfSome, IsErrOf, Err};
 ghost use Rattle.std.specs.FinMap as map;
-ghost use Rattle.mt_io.specs.Causes.{Rose};
 ghost use Rattle.mt_io.specs.Files.{Files};
+ghost use Rattle.mt_io.specs.Seen.{Looks, Tells};
 ghost use Rattle.mt_files.specs.Changes.{IsChange};
 ghost use Rattle.mt_files.specs.Fresh.{ascending};
-ghost use Rattle.mt_files.specs.Snapshots.{Snapshot};
+ghost use Rattle.mt_files.specs.Listings.{IsDescribed};
 ghost use Rattle.mt_files.specs.Rescans.{change_at, changes_between, rescanned};
 
 use crate::change::{Change, ChangeList};
+use crate::crawler::crawl;
 use crate::fault::CrawlFault;
 use crate::file_map::FileMap;
-use crate::walk::{PathSet, crawl};
 use mt_io::Folder;
-use mt_path::Path;
+use mt_path::{Path, PathSet};
 use std::alloc::{AllocError, Global};
-
-#[cfg(test)]
-mod tests;
 
 // The paths of both snapshots.
 fn paths_of(alloc: Global, old: &FileMap, new: &FileMap) -> Result<PathSet, AllocError>
@@ -53,7 +50,7 @@ fn changes_between(alloc: Global, old: &FileMap, new: &FileMap) -> Result<Change
 {
     let paths = paths_of(alloc, old, new)?;
     let mut changes = ChangeList::new(alloc);
-    for path in paths.tree.keys() {
+    for path in paths.keys() {
         if let Some(change) = change_at(path, old, new)? {
             changes.push(change)?;
         }
@@ -70,11 +67,10 @@ pub fn rescan<F: Folder>(
     folder: &mut F,
     files: &FileMap,
 ) -> Result<ChangeList, CrawlFault>
-    ensures exact { (tree : Files) → F.told folder.old ≡ Some tree → (result ≡ Err CrawlFault.NoMemory) ⊎ (result ≡ Err CrawlFault.Failed) ⊎ (result ≡ rescanned files.now tree) }
-    ensures found { IfOk result (λ changes. (found : Snapshot) × (changes ≡ changes_between files.now found)) }
-    ensures same { F.told folder.new ≡ F.told folder.old }
-    ensures later { F.count folder.old ≤ F.count folder.new }
-    ensures failed { IsErrOf result CrawlFault.Failed → Rose (F.count folder.old) (F.count folder.new) }
+    ensures exact { (tree : Files) → Tells (F.seen folder.old) tree → (result ≡ Err CrawlFault.NoMemory) ⊎ (result ≡ Err CrawlFault.Failed) ⊎ (result ≡ rescanned files.now tree) }
+    // Also of a folder that tells nothing.
+    ensures described { (result ≡ Err CrawlFault.NoMemory) ⊎ (result ≡ Err CrawlFault.Failed) ⊎ ((tree : Files) × IsDescribed F.lists F.reads tree × (result ≡ rescanned files.now tree)) }
+    ensures looks { Looks (F.seen folder.old) (F.seen folder.new) (IsErrOf result CrawlFault.Failed) }
 {
     let found = match crawl(alloc, folder) {
         Ok(found) => found,

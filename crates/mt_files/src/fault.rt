@@ -10,7 +10,7 @@ pub enum CrawlFault {
     /// The folder failed, and has counted a fault.
     #[error("the folder failed")]
     Failed,
-    /// A source has more than `MOST_SOURCE_BYTES` bytes.
+    /// A source has more than `MAX_SOURCE_BYTES` bytes.
     #[error("{path} has {size} bytes")]
     FileTooLarge {
         /// The path of the source.
@@ -18,10 +18,10 @@ pub enum CrawlFault {
         /// How many bytes were read.
         size: usize,
     },
-    /// The walk meets more than `MOST_FILES` files.
+    /// There are more than `MAX_FILES` files.
     #[error("there are too many files")]
     TooManyFiles,
-    /// The sources have more than `MOST_BYTES` bytes together.
+    /// The sources have more than `MAX_FOLDER_BYTES` bytes together.
     #[error("the sources are too large together")]
     TooManyBytes,
     /// There was no memory for the snapshot.

@@ -1,22 +1,17 @@
 //! A snapshot of files.
-ghost use Rattle.std.specs.Prelude.{◌≡◌, ◌↔◌, List, ℕ, Ok, OnOk, OnErr, IfOk, IfSome, IsTrue, ◌≤◌, length, option_copied};
+ghost use Rattle.std.specs.Prelude.{◌≡◌, ◌↔◌, OnOk, OnErr, IfOk, IfSome, IsTrue, ◌≤◌, length, option_copied};
 ghost use Rattle.std.specs.FinMap as map;
-ghost use Rattle.mt_io.specs.Files.{Files};
-ghost use Rattle.mt_files.specs.Snapshots.{IsEntryOf, IsSnapshot, Snapshot, source_at};
-ghost use Rattle.mt_files.specs.Crawl.{crawled, entry_in};
+ghost use Rattle.mt_tokens.specs.Sources.{max_source_bytes};
+ghost use Rattle.mt_files.specs.PathSets.{with_paths};
+ghost use Rattle.mt_files.specs.Snapshots.{IsEntryOf, IsSnapshot, source_at};
 ghost use Rattle.mt_files.specs.Changes.{IsChange, stepped};
-ghost use Rattle.mt_files.specs.Rescans.{same_entry, with_paths};
+ghost use Rattle.mt_files.specs.Rescans.{same_entry};
 
 use crate::change::Change;
-use crate::walk::PathSet;
-use mt_path::Path;
+use mt_path::{Path, PathMap, PathSet};
 use mt_tokens::{Bytes, Shared};
 use std::alloc::{AllocError, Global};
-use std::collections::BTreeMap;
 use std::marker::Model;
-
-/// The most bytes that a source has.
-pub const MOST_SOURCE_BYTES: usize = 16_777_216;
 
 /// What a snapshot keeps of a file.
 #[derive(Drop)]
@@ -33,7 +28,7 @@ impl Entry {
         ensures same { IfOk result (λ entry. entry ≡ self.now) }
     {
         match self {
-            Entry::Source(bytes) => Ok(Entry::Source(bytes.share()?)),
+            Entry::Source(bytes) => Ok(Entry::Source(bytes.clone()?)),
             Entry::Other => Ok(Entry::Other),
         }
     }
@@ -43,7 +38,7 @@ impl Entry {
         ensures same { result ≡ same_entry self.now other.now }
     {
         match (self, other) {
-            (Entry::Source(bytes), Entry::Source(others)) => bytes.get() == others.get(),
+            (Entry::Source(bytes), Entry::Source(others)) => bytes == others,
             (Entry::Other, Entry::Other) => true,
             _ => false,
         }
@@ -53,25 +48,22 @@ impl Entry {
 /// The entries of files by their paths, which contracts see as a finite map from the paths' texts.
 #[derive(Drop)]
 pub struct FileMap {
-    files: BTreeMap<Path, Entry>,
+    files: PathMap<Entry>,
 }
 
 impl Model for FileMap {
     ghost use Rattle.std.specs.FinMap as map;
-    ghost use Rattle.std.specs.Ordering.{nat_cmp};
-    ghost use Rattle.std.specs.Cmp.Lexicographic.{slice_cmp};
     ghost use Rattle.std.specs.Coded.{coded_list, coded_ℕ};
-    ghost use Rattle.mt_files.specs.declared.file_map.Entry.{Entry};
     ghost use Rattle.mt_files.specs.contracts.file_map.Entry as entry;
-    ghost use Rattle.mt_files.specs.Snapshots.{IsSnapshot};
+    ghost use Rattle.mt_files.specs.Snapshots.{IsSnapshot, Snapshot};
 
-    ghost Value = { map.FinMap (slice_cmp nat_cmp) Entry };
+    ghost Value = { Snapshot };
 
     ghost coded = { map.code (coded_list coded_ℕ) entry.the_row.coded };
 
-    ghost view = { λ f. map.from_entries f.files.entries };
+    ghost view = { λ f. f.files };
 
-    ghost invariant = { λ f. IsSnapshot (map.from_entries f.files.entries) };
+    ghost invariant = { λ f. IsSnapshot f.files };
 }
 
 impl FileMap {
@@ -80,7 +72,7 @@ impl FileMap {
         ensures empty { result ≡ map.empty }
     {
         FileMap {
-            files: BTreeMap::new(alloc),
+            files: PathMap::new(alloc),
         }
     }
 
@@ -109,7 +101,7 @@ impl FileMap {
     /// The bytes of a source, if it is there.
     pub fn source(&self, path: &Path) -> Option<&Shared<Bytes>>
         ensures source { option_copied result ≡ source_at self.now path.now }
-        ensures bound { IfSome (source_at self.now path.now) (λ bytes. length bytes ≤ 16777216) }
+        ensures bound { IfSome (source_at self.now path.now) (λ bytes. length bytes ≤ max_source_bytes) }
     {
         match self.get(path) {
             Some(Entry::Source(bytes)) => Some(bytes),
@@ -122,7 +114,7 @@ impl FileMap {
         ensures paths { OnOk result (paths.new ≡ with_paths paths.old (map.keys self.now)) }
     {
         for path in self.files.keys() {
-            paths.insert(path.clone()?)?;
+            paths.insert(path.clone()?, ())?;
         }
         Ok(())
     }
@@ -146,7 +138,7 @@ impl FileMap {
         self.files.remove(path);
     }
 
-    /// Changes a file. Refused only for want of memory; then the snapshot is as it was.
+    /// Changes a file. Refused only where memory runs out; then the snapshot is as it was.
     pub fn apply(&mut self, change: &Change) -> Result<(), AllocError>
         requires change { IsChange change.now }
         ensures ok { OnOk result (self.new ≡ stepped self.old change.now) }
@@ -160,10 +152,4 @@ impl FileMap {
             }
         }
     }
-
-    /// Does nothing, and carries a law: the snapshot that a crawl makes of a tree has the entry of each file
-    /// that the walk meets, and no other.
-    pub fn law_of_crawls()
-        ensures kept { (tree : Files) (files : Snapshot) → crawled tree ≡ Ok files → (path : List ℕ) → map.get files path ≡ entry_in tree path }
-    {}
 }

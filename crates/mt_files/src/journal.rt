@@ -1,27 +1,24 @@
 //! The journal of changes.
 ghost use Rattle.std.specs.Prelude.{◌≡◌, ◌≤◌, ◌⊎◌, ◌↔◌, [], ◌∷◌, ◌++◌, length, true, Err, IsTrue, OnOk, OnErr};
 ghost use Rattle.mt_files.specs.Changes.{IsChange};
-ghost use Rattle.mt_files.specs.Journals.{IsJournal, full, is_full, journal_bytes, most_changes, push_answer};
+ghost use Rattle.mt_files.specs.Journals.{IsJournal, full, is_full, journal_bytes, max_changes, push_answer};
 
 use crate::change::Change;
 use std::alloc::{AllocFailed, Global};
 use std::marker::Model;
 use thiserror::Error;
 
-#[cfg(test)]
-mod tests;
-
 /// The most changes that a journal holds.
-pub const MOST_CHANGES: usize = 65_536;
+pub const MAX_CHANGES: usize = 65_536;
 
 /// The most bytes that the sources put by the changes of a journal have together.
-pub const MOST_JOURNAL_BYTES: u64 = 1_073_741_824;
+pub const MAX_JOURNAL_BYTES: u64 = 1_073_741_824;
 
-/// Why a journal takes a change no more.
+/// Why a journal doesn't take a change.
 #[derive(Debug, Drop, Error)]
 pub enum JournalFault {
-    /// The journal holds `MOST_CHANGES` changes, or the change would bring the bytes of the sources above
-    /// `MOST_JOURNAL_BYTES`.
+    /// The journal holds `MAX_CHANGES` changes, or the change would bring the bytes of the sources above
+    /// `MAX_JOURNAL_BYTES`.
     #[error("the journal is full: {changes} changes, {bytes} bytes")]
     JournalFull {
         /// How many changes the journal holds.
@@ -79,7 +76,7 @@ impl Journal {
     /// How many changes the journal holds.
     pub fn len(&self) -> usize
         ensures len { result ≡ length self.now }
-        ensures few { length self.now ≤ most_changes }
+        ensures few { length self.now ≤ max_changes }
     {
         self.changes.len()
     }
@@ -108,8 +105,8 @@ impl Journal {
 
     /// Adds a change at the end. After an `Err` the journal is as it was.
     ///
-    /// `JournalFull` is answered exactly where the journal holds `MOST_CHANGES` changes, or where the bytes of the
-    /// sources would pass `MOST_JOURNAL_BYTES`.
+    /// `JournalFull` is answered exactly where the journal holds `MAX_CHANGES` changes, or where the bytes of the
+    /// sources would pass `MAX_JOURNAL_BYTES`.
     pub fn push(&mut self, change: Change) -> Result<(), JournalFault>
         requires change { IsChange change }
         ensures exact { (result ≡ Err JournalFault.NoMemory) ⊎ (result ≡ push_answer self.old change) }
@@ -119,7 +116,7 @@ impl Journal {
     {
         let count = self.changes.len();
         let total = self.bytes.saturating_add(change.source_len() as u64);
-        if count >= MOST_CHANGES || total > MOST_JOURNAL_BYTES {
+        if count >= MAX_CHANGES || total > MAX_JOURNAL_BYTES {
             return Err(JournalFault::JournalFull {
                 changes: count as u32,
                 bytes: self.bytes,

@@ -1,223 +1,217 @@
-//! The traversal of a snapshot from its entries.
-ghost use Rattle.std.specs.Prelude.{◌≡◌, ◌≤◌, ◌<◌, ◌⊎◌, ◌++◌, [], ◌∷◌, ℕ, List, true, length, IfOk, Some, None, OnOk};
-ghost use Rattle.std.specs.List.{filter_map, list_any, slice_get, IsDistinct};
-ghost use Rattle.std.specs.Str.{bytes_eq};
-ghost use Rattle.std.specs.Option.{option_or, option_map_or, option_to_list};
-ghost use Rattle.mt_fresh.specs.Graphs.{fresh_graph};
-ghost use Rattle.mt_tokens.specs.Deps.{Dependency};
-ghost use Rattle.mt_fresh.specs.Output.{IsSure, source_dependencies};
-ghost use Rattle.mt_files.specs.Resolve.{resolved};
-ghost use Rattle.mt_files.specs.Edges.{edges, unresolved};
-ghost use Rattle.mt_fresh.specs.Rows.{row, rows_of, output_faults};
+//! An explorer without threads.
+ghost use Rattle.std.specs.Prelude.{◌≡◌, ◌≤◌, ◌++◌, ◌||◌, [], ◌∷◌, length, map as mapped, IfOk, OnOk, true};
+ghost use Rattle.std.specs.List.{All, fold};
+ghost use Rattle.std.specs.FinMap as map;
+ghost use Rattle.mt_tokens.specs.Sources.{max_source_bytes};
+ghost use Rattle.mt_files.specs.Snapshots.{has_source};
+ghost use Rattle.mt_files.specs.PathSets.{with_paths};
+ghost use Rattle.mt_graph.specs.Founds.{link_of, links_of, made_of};
+ghost use Rattle.mt_graph.specs.Explored.{IsExploration, explored};
+ghost use Rattle.mt_fresh.specs.Visits.{found_of, is_new, visit_of, visits_of, waiting_with, waiting_with_all};
 
-use crate::graph::{Found, Graph, PathList};
-use crate::mt_resolve::{Target, resolve};
-use crate::mt_transform::{Options, Output, path_kind, transform};
-use crate::rows::{Row, Rows};
-use mt_files::{BuildFault, FileMap};
-use mt_path::Path;
-use mt_tokens::{Shared, SourceFault};
+use mt_files::{FileMap, Resolution, Target, path_kind};
+use mt_graph::{Explorer, Found, FoundList, LinkList};
+use mt_package::Options;
+use mt_path::{Path, PathMap, PathSet};
+use mt_resolve::resolve;
+use mt_tokens::{Bytes, Shared, SourceFault};
+use mt_transform::{NameList, Output, transform};
 use std::alloc::{AllocError, Global};
 
-/// Where the names of an output lead, and the fault of the first that leads nowhere.
+/// What became of the source at a path, and where the names of that lead.
 #[derive(Drop)]
-pub(crate) struct Links {
-    pub fault: Option<BuildFault>,
-    pub targets: PathList,
+struct Visit {
+    made: Result<Shared<Output>, SourceFault>,
+    links: LinkList,
 }
 
-/// A row, and the paths that its module requires.
-#[derive(Drop)]
-pub(crate) struct Visit {
-    pub row: Row,
-    pub targets: PathList,
-}
+/// The modules visited, by their paths.
+type VisitMap = PathMap<Visit>;
 
-/// The fault of a name that leads nowhere.
-fn unresolved_fault(
+/// What becomes of the source at a path. Refused only where memory runs out.
+fn make(
     alloc: Global,
-    path: &Path,
-    output: &Output,
-    i: usize,
-) -> Result<BuildFault, AllocError>
-    requires sure { IsSure output.now }
-    requires index { i < length output.now.names }
-    ensures { IfOk result (λ fault. (d : Dependency) → slice_get (source_dependencies output.now) i ≡ Some d → fault ≡ BuildFault.Unresolved path.now d.place d.name) }
-{
-    let place = output.place(alloc, i)?;
-    let name = output.names.as_slice()[i].clone()?;
-    let path = path.clone()?;
-    Ok(BuildFault::Unresolved { path, place, name })
-}
-
-/// Where a name of a module leads.
-fn target_of(
-    alloc: Global,
-    files: &FileMap,
     options: &Options,
     path: &Path,
-    output: &Output,
-    i: usize,
-) -> Result<Target, AllocError>
-    requires sure { IsSure output.now }
-    requires index { i < length output.now.names }
-    ensures target { IfOk result (λ target. (d : Dependency) → slice_get (source_dependencies output.now) i ≡ Some d → target ≡ option_map_or Target.File (resolved files.now path.now d.name) Target.None) }
+    source: &Shared<Bytes>,
+) -> Result<Result<Shared<Output>, SourceFault>, AllocError>
+    requires small { length source.now ≤ max_source_bytes }
+    ensures exact { IfOk result (λ made. made ≡ made_of options.now path.now source.now) }
 {
-    let name = &output.names.as_slice()[i];
-    let resolution = resolve(alloc, files, options, path, name.as_str())?;
-    Ok(resolution.target)
-}
-
-/// Follows one name of a module.
-fn follow_name(
-    alloc: Global,
-    files: &FileMap,
-    options: &Options,
-    path: &Path,
-    output: &Output,
-    i: usize,
-    links: &mut Links,
-) -> Result<(), AllocError>
-    requires sure { IsSure output.now }
-    requires index { i < length output.now.names }
-    ensures targets { OnOk result ((d : Dependency) → slice_get (source_dependencies output.now) i ≡ Some d → links.new.targets ≡ links.old.targets ++ option_to_list (resolved files.now path.now d.name)) }
-    ensures fault { OnOk result ((d : Dependency) → slice_get (source_dependencies output.now) i ≡ Some d → links.new.fault ≡ option_or links.old.fault (slice_get (unresolved files.now path.now d) 0)) }
-{
-    match target_of(alloc, files, options, path, output, i)? {
-        Target::File(target) => links.targets.push(target)?,
-        Target::None => {
-            if links.fault.is_none() {
-                links.fault = Some(unresolved_fault(alloc, path, output, i)?);
-            }
-        }
+    match transform(alloc, options, path_kind(path), source.clone()?) {
+        Ok(output) => Ok(Ok(Shared::new(alloc, output)?)),
+        Err(SourceFault::NoMemory) => Err(AllocError),
+        Err(fault) => Ok(Err(fault)),
     }
-    Ok(())
 }
 
-/// Follows the names of a module.
-fn follow(
+/// Where the names of the module at a path lead.
+fn resolve_names(
     alloc: Global,
     files: &FileMap,
     options: &Options,
     path: &Path,
-    output: &Output,
-) -> Result<Links, AllocError>
-    requires { IsSure output.now }
-    ensures targets { IfOk result (λ links. links.targets ≡ filter_map (λ d. resolved files.now path.now d.name) (source_dependencies output.now)) }
-    ensures fault { IfOk result (λ links. links.fault ≡ slice_get (output_faults files.now path.now output.now) 0) }
+    names: &NameList,
+) -> Result<LinkList, AllocError>
+    ensures exact { IfOk result (λ links. links ≡ mapped (link_of options.now files.now path.now) names.now) }
 {
-    let mut links = Links {
-        fault: None,
-        targets: PathList::new(alloc),
-    };
-    for i in 0..output.names.len() {
-        follow_name(alloc, files, options, path, output, i, &mut links)?;
+    let mut links = LinkList::new(alloc);
+    for name in names.as_slice() {
+        links.push(resolve(
+            alloc,
+            files,
+            options,
+            path,
+            name.text.as_str(),
+            name.kind,
+        )?)?;
     }
     Ok(links)
 }
 
-/// The row of a module that these links leave.
-fn linked(alloc: Global, output: Output, links: Links) -> Result<Visit, AllocError>
-    ensures row { IfOk result (λ visit. visit.row ≡ option_map_or Row.Refused links.fault (Row.Made (record { output = output; targets = links.targets }))) }
-    ensures targets { IfOk result (λ visit. visit.targets ≡ links.targets) }
-{
-    let Links { fault, targets } = links;
-    match fault {
-        Some(fault) => Ok(Visit {
-            row: Row::Refused(fault),
-            targets,
-        }),
-        None => {
-            let found = Found {
-                output: Shared::new(alloc, output)?,
-                targets: targets.clone()?,
-            };
-            Ok(Visit {
-                row: Row::Made(found),
-                targets,
-            })
-        }
-    }
-}
-
-/// Reads the module at a path.
-fn read_module(
+/// Visits the module at a path that has this source.
+fn visit_source(
     alloc: Global,
     files: &FileMap,
     options: &Options,
     path: &Path,
+    source: &Shared<Bytes>,
 ) -> Result<Visit, AllocError>
-    ensures row { IfOk result (λ visit. visit.row ≡ row files.now path.now) }
-    ensures targets { IfOk result (λ visit. visit.targets ≡ edges files.now path.now) }
+    requires small { length source.now ≤ max_source_bytes }
+    ensures exact { IfOk result (λ visit. visit ≡ visit_of options.now files.now path.now source.now) }
 {
-    let Some(source) = files.source(path) else {
-        let path = path.clone()?;
-        return Ok(Visit {
-            row: Row::Refused(BuildFault::EntryMissing { path }),
-            targets: PathList::new(alloc),
-        });
-    };
-    let output = match transform(alloc, options, path_kind(path), source.share()?) {
-        Ok(output) => output,
-        Err(SourceFault::NoMemory) => return Err(AllocError),
-        Err(fault) => {
-            let path = path.clone()?;
-            return Ok(Visit {
-                row: Row::Refused(BuildFault::Source { path, fault }),
-                targets: PathList::new(alloc),
-            });
+    match make(alloc, options, path, source)? {
+        Ok(output) => {
+            let links = resolve_names(alloc, files, options, path, output.names())?;
+            Ok(Visit {
+                made: Ok(output),
+                links,
+            })
         }
-    };
-    let links = follow(alloc, files, options, path, &output)?;
-    linked(alloc, output, links)
+        Err(fault) => Ok(Visit {
+            made: Err(fault),
+            links: LinkList::new(alloc),
+        }),
+    }
 }
 
-/// Reads the entries, and all that they reach.
-fn explore(
+/// Whether a path to which the module `origin` leads is neither known, nor visited, nor `origin`, nor waits already.
+fn is_new_target(
+    path: &Path,
+    origin: &Path,
+    known: &PathSet,
+    visits: &VisitMap,
+    waiting: &PathSet,
+) -> bool
+    ensures exact { result ≡ is_new origin.now known.now visits.now waiting.now path.now }
+{
+    path != origin
+        && !known.contains(path)
+        && !visits.contains(path)
+        && !waiting.contains(path)
+}
+
+/// Lets the source to which a link of the module `origin` leads wait, where it is new.
+fn add_target(
+    link: &Resolution,
+    origin: &Path,
+    known: &PathSet,
+    visits: &VisitMap,
+    waiting: &mut PathSet,
+) -> Result<(), AllocError>
+    ensures ok { OnOk result (waiting.new ≡ waiting_with origin.now known.now visits.now waiting.old link.now.target) }
+{
+    let Target::File(path) = &link.target else {
+        return Ok(());
+    };
+    if !is_new_target(path, origin, known, visits, waiting) {
+        return Ok(());
+    }
+    waiting.insert(path.clone()?, ())
+}
+
+/// Lets each new source to which the module `origin` leads wait.
+fn add_targets(
+    links: &LinkList,
+    origin: &Path,
+    known: &PathSet,
+    visits: &VisitMap,
+    waiting: &mut PathSet,
+) -> Result<(), AllocError>
+    ensures ok { OnOk result (waiting.new ≡ waiting_with_all origin.now known.now visits.now waiting.old links.now) }
+{
+    for link in links.as_slice() {
+        add_target(link, origin, known, visits, waiting)?;
+    }
+    Ok(())
+}
+
+/// A set of these paths.
+fn set_of(alloc: Global, paths: &[Path]) -> Result<PathSet, AllocError>
+    ensures set { IfOk result (λ set. set ≡ with_paths map.empty paths.now) }
+{
+    let mut set = PathSet::new(alloc);
+    for path in paths {
+        set.insert(path.clone()?, ())?;
+    }
+    Ok(set)
+}
+
+/// Visits the modules to which the seeds lead.
+fn visit_all(
     alloc: Global,
     files: &FileMap,
     options: &Options,
-    entries: &[Path],
-) -> Result<Rows, AllocError>
-    ensures { IfOk result (λ rows. rows ≡ rows_of files.now entries.now) }
+    seeds: &[Path],
+    known: &PathSet,
+) -> Result<VisitMap, AllocError>
+    requires sources { All (λ seed. has_source files.now seed ≡ true) seeds.now }
+    ensures exact { IfOk result (λ visits. visits ≡ visits_of options.now files.now seeds.now known.now) }
 {
-    let mut rows = Rows::new(alloc);
-    let mut stack = PathList::from_slice(alloc, entries)?;
+    let mut visits = VisitMap::new(alloc);
+    let mut waiting = set_of(alloc, seeds)?;
     for _turn in 0..u64::MAX {
-        let Some(path) = stack.pop() else {
-            return Ok(rows);
+        let Some((path, ())) = waiting.pop_first() else {
+            return Ok(visits);
         };
-        if rows.contains(&path) {
+        let Some(source) = files.source(&path) else {
             continue;
-        }
-        let Visit { row, targets } = read_module(alloc, files, options, &path)?;
-        rows.insert(path, row)?;
-        stack.append(targets)?;
+        };
+        let visit = visit_source(alloc, files, options, &path, source)?;
+        add_targets(&visit.links, &path, known, &visits, &mut waiting)?;
+        visits.insert(path, visit)?;
     }
     // No run gets here: no memory holds the paths of 2^64 - 1 turns.
     Err(AllocError)
 }
 
-/// The most modules of a build.
-pub const MOST_MODULES: usize = 65536;
-
-/// The fresh graph of a snapshot from its entries, or its first fault: too many modules, or else the fault with the
-/// least path and place among the missing entries and the faults of the modules reached.
-#[tactic(auto, using(crate::proofs::Settles::count_members, crate::proofs::Settles::settled_members))]
-pub fn traverse(
-    alloc: Global,
-    files: &FileMap,
-    options: &Options,
-    entries: &[Path],
-) -> Result<Graph, BuildFault>
-    requires some { 1 ≤ length entries.now }
-    requires most { length entries.now ≤ 16 }
-    requires distinct { IsDistinct bytes_eq entries.now }
-    ensures exact { (result ≡ Err BuildFault.NoMemory) ⊎ (result ≡ fresh_graph files.now entries.now) }
+/// What was visited, by ascending path.
+fn founds_of(alloc: Global, visits: VisitMap) -> Result<FoundList, AllocError>
+    ensures exact { IfOk result (λ founds. founds ≡ mapped found_of (map.entries visits)) }
 {
-    let rows = explore(alloc, files, options, entries)?;
-    if rows.count_sources(files) > MOST_MODULES {
-        return Err(BuildFault::TooManyModules);
+    let mut founds = FoundList::new(alloc);
+    for (path, visit) in visits {
+        let Visit { made, links } = visit;
+        founds.push(Found { path, made, links })?;
     }
-    rows.settle(alloc)
+    Ok(founds)
+}
+
+/// An explorer that visits one module after another.
+#[derive(Debug, Drop)]
+pub struct Traversal;
+
+impl Explorer for Traversal {
+    ghost sure = { λ _. Unit {0} };
+
+    fn explore(
+        &mut self,
+        alloc: Global,
+        files: &FileMap,
+        options: &Options,
+        seeds: &[Path],
+        known: &PathSet,
+    ) -> Result<FoundList, AllocError> {
+        founds_of(alloc, visit_all(alloc, files, options, seeds, known)?)
+    }
 }

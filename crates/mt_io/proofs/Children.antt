@@ -1,25 +1,27 @@
 -- The children of a folder that are found on ascending paths: each of them, and none twice.
 use Rattle.std.proofs.Common.{◌⊎◌, inl, inr, ◌≡◌, ◌≢◌, suc, ◌∙◌, ◌&&◌, arith, ℕ, true, false, List, [], ◌∷◌, ◌++◌, Option, Some, None, refl, sym, ap, subst, if◌then◌else◌, ◌||◌, get_or, length, zero, Bool, ◌<◌}
+use Rattle.std.specs.Bool.{nat_eq}
 use Rattle.std.specs.Option.{IfSome, option_map, option_and_then}
 use Rattle.std.specs.Ordering.{nat_cmp, eq_by_cmp, is_eq}
 use Rattle.std.specs.declared.cmp.Ordering.TheVariants.{Less, Equal, Greater}
 use Rattle.std.specs.Cmp.Lexicographic.{slice_cmp, nat_list_cmp_total}
-use Rattle.std.specs.FinMap.{keys, contains_key, contains_key-keys, slice_cmp-IsAntisymmetric, nat_cmp-IsAntisymmetric}
-use Rattle.std.specs.List.{All, AllByRecursion, AllPairs, Any, Contains, list_any}
+use Rattle.std.specs.FinMap.{FinMap, keys, contains_key, contains_key-keys, slice_cmp-IsAntisymmetric, nat_cmp-IsAntisymmetric}
+use Rattle.std.specs.List.{All, AllByRecursion, AllPairs, Any, Contains, list_any, starts_with}
 use Rattle.std.specs.List.Sorted.{IsStrictlySortedBy}
 use Rattle.std.specs.Str.{bytes_eq}
 use Rattle.std.proofs.lemmas.Bool.{and_parts, and_from}
 use Rattle.std.proofs.lemmas.List.Elements.{All-cons, All-nil, All-from_recursion, All-weaker, All-contains}
 use Rattle.std.proofs.lemmas.List.Kept.{AllPairs-cons}
 use Rattle.std.proofs.lemmas.Map.Keys.{sorted_head, sorted_tail}
-use Rattle.mt_io.specs.Files.{child_toward, Files, IsChildrenOf, first_of, rest_of}
+use Rattle.mt_io.specs.Files.{child_toward, Files, IsChildrenOf, first_of, is_folder_in, rest_of}
 use Rattle.mt_path.specs.Children.{prefix_of}
+use Rattle.mt_path.specs.Names.{is_root}
 use Rattle.mt_io.specs.declared.folder.Named.{Named}
 use Rattle.mt_io.specs.declared.folder.NamedKind.{NamedKind}
 use Rattle.mt_io.specs.declared.folder.NamedKind.TheVariants.{File, Folder, Other}
 use Rattle.mt_io.specs.Children.{new_children, same_kind, unless_last}
 use Rattle.mt_io.proofs.Rests.{Before, bytes_same, cmp_front, cmp_same, key, key_some, no_key, not_no_child, rest_parts, same_bytes, step_cmp}
-use Rattle.mt_io.proofs.Tables.{keys_sorted}
+use Rattle.mt_containers.proofs.Tables.{keys_sorted}
 
 or_true : (a : Bool) → (a || true) ≡ true
 or_true true = refl
@@ -225,18 +227,22 @@ tied_is a b e =
       | Greater ↦ λ p h. cc
     ] refl e
 
-stands : (ks : List (List ℕ)) (q : List ℕ) → list_any (eq_by_cmp (slice_cmp nat_cmp) q) ks ≡ true → Contains ks q
-stands [] q h = cc
-stands (k ∷ ks) q h =
+listed_key : (ks : List (List ℕ)) (q : List ℕ) → list_any (eq_by_cmp (slice_cmp nat_cmp) q) ks ≡ true → Contains ks q
+listed_key [] q h = cc
+listed_key (k ∷ ks) q h =
     elim (eq_by_cmp (slice_cmp nat_cmp) q k) as (λ b. eq_by_cmp (slice_cmp nat_cmp) q k ≡ b → (b || list_any (eq_by_cmp (slice_cmp nat_cmp) q) ks) ≡ true → Contains (k ∷ ks) q) [
       | true ↦ λ e _. (0, omega arith, sym (tied_is q k e))
-      | false ↦ λ _ h. let c = stands ks q h in (suc c.0, (let l = c.1 in omega arith), c.2)
+      | false ↦ λ _ h. let c = listed_key ks q h in (suc c.0, (let l = c.1 in omega arith), c.2)
     ] refl h
 
 found : (ks : List (List ℕ)) (q : List ℕ) (i : ℕ) → i < length ks → get_or ks i q ≡ q → list_any (eq_by_cmp (slice_cmp nat_cmp) q) ks ≡ true
 found [] q i inside is = grind arith
 found (k ∷ ks) q zero inside is = rw (is, cmp_same q) refl
 found (k ∷ ks) q (suc i) inside is = rw (found ks q i (omega arith) is) (or_true (eq_by_cmp (slice_cmp nat_cmp) q k))
+
+-- what is among the keys of a map is in it
+pub key_there : {X : Type 0} (m : FinMap (slice_cmp nat_cmp) X) (q : List ℕ) → Contains (keys m) q → contains_key m q ≡ true
+key_there m q (i, inside, is) = contains_key-keys m q ∙ found (keys m) q i inside is
 
 -- a name that a folder lists is the child through which a file's path leads
 pub child_met : (tree : Files) (folder : List ℕ) (names : List Named) → IsChildrenOf tree folder names → (child : Named) → Contains names child → (path : List ℕ) × (contains_key tree path ≡ true) × (child_toward folder path ≡ Some child)
@@ -247,6 +253,15 @@ child_met tree folder names h child c =
 -- the child through which a file's path leads is one that the folder lists
 pub child_told : (tree : Files) (folder : List ℕ) (names : List Named) → IsChildrenOf tree folder names → (path : List ℕ) (child : Named) → contains_key tree path ≡ true → child_toward folder path ≡ Some child → Contains names child
 child_told tree folder names h path child has leads =
-    let c = stands (keys tree) path (sym (contains_key-keys tree path) ∙ has) in
+    let c = listed_key (keys tree) path (sym (contains_key-keys tree path) ∙ has) in
     let k : IfSome (child_toward folder path) (Contains names) = All-contains (λ p. IfSome (child_toward folder p) (Contains names)) (keys tree) path h.whole c in
     rw leads at k
+
+begins : (prefix : List ℕ) (ks : List (List ℕ)) (q : List ℕ) → Contains ks q → starts_with nat_eq q prefix ≡ true → list_any (λ path. starts_with nat_eq path prefix) ks ≡ true
+begins prefix [] q (i, inside, is) h = absurd (omega arith)
+begins prefix (k ∷ ks) q (zero, inside, is) h = rw (is, h) refl
+begins prefix (k ∷ ks) q (suc i, inside, is) h = rw (begins prefix ks q (i, omega arith, is) h) (or_true (starts_with nat_eq k prefix))
+
+-- a folder is there where the path of a file begins with its path and a `/`
+pub folder_there : (tree : Files) (folder path : List ℕ) → contains_key tree path ≡ true → starts_with nat_eq path (prefix_of folder) ≡ true → is_folder_in tree folder ≡ true
+folder_there tree folder path has h = rw (begins (prefix_of folder) (keys tree) path (listed_key (keys tree) path (sym (contains_key-keys tree path) ∙ has)) h) (or_true (is_root folder))

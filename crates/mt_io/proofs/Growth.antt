@@ -5,7 +5,7 @@ use Rattle.std.proofs.Common.{◌≡◌, ℕ, ◌+◌, List, [], ◌++◌, appen
 use Rattle.std.proofs.Math.Seq.{take-add}
 use Rattle.mt_io.specs.Told.{Grows, GrowsByPrefix}
 
--- a front part, and then some of the rest
+-- a prefix, and then some of the rest
 pub grows_more : (a b c : Option (List ℕ)) (bytes : List ℕ) (i n : ℕ) → Grows a b (take i bytes) → Grows b c (take n (drop i bytes)) → Grows a c (take (i + n) bytes)
 grows_more None b c bytes i n p q = rw p at q
 grows_more (Some xs) b c bytes i n p q =
@@ -24,15 +24,15 @@ grows_then (Some zs) b c xs ys p q =
     let r : c ≡ Some ((zs ++ xs) ++ ys) = rw p at q in
     r ∙ ap Some (append_assoc zs xs ys)
 
--- nothing is a front part
+-- nothing is a prefix
 pub part_none : (a : Option (List ℕ)) (bytes : List ℕ) → GrowsByPrefix a a bytes
 part_none a bytes = record { front = []; rest = bytes; joined = refl; grown = grows_none a }
 
--- all is a front part
+-- all is a prefix
 pub part_all : (a b : Option (List ℕ)) (bytes : List ℕ) → Grows a b bytes → GrowsByPrefix a b bytes
 part_all a b bytes h = record { front = bytes; rest = []; joined = append-nil bytes; grown = h }
 
--- a front part of a piece is one of that piece and more
+-- a prefix of a piece is one of that piece and more
 pub part_more : (a b : Option (List ℕ)) (xs ys : List ℕ) → GrowsByPrefix a b xs → GrowsByPrefix a b (xs ++ ys)
 part_more a b xs ys h = record {
   front = h.front;
@@ -41,7 +41,7 @@ part_more a b xs ys h = record {
   grown = h.grown;
 }
 
--- a whole piece, and then a front part of the next
+-- a whole piece, and then a prefix of the next
 pub part_then : (a b c : Option (List ℕ)) (xs ys : List ℕ) → Grows a b xs → GrowsByPrefix b c ys → GrowsByPrefix a c (xs ++ ys)
 part_then a b c xs ys p h = record {
   front = xs ++ h.front;
@@ -50,10 +50,10 @@ part_then a b c xs ys p h = record {
   grown = grows_then a b c xs h.front p h.grown;
 }
 
--- a front part of a piece is one of that piece and two more
+-- a prefix of a piece is one of that piece and two more
 pub part_more_twice : (a b : Option (List ℕ)) (xs ys zs : List ℕ) → GrowsByPrefix a b xs → GrowsByPrefix a b (xs ++ ys ++ zs)
 part_more_twice a b xs ys zs h = part_more a b (xs ++ ys) zs (part_more a b xs ys h)
 
--- a whole piece, and then a front part of the next, where more was to come
+-- a whole piece, and then a prefix of the next, where more was to come
 pub part_then_more : (a b c : Option (List ℕ)) (xs ys zs : List ℕ) → Grows a b xs → GrowsByPrefix b c ys → GrowsByPrefix a c (xs ++ ys ++ zs)
 part_then_more a b c xs ys zs p h = part_more a c (xs ++ ys) zs (part_then a b c xs ys p h)

@@ -1,7 +1,8 @@
 pub mod Growth
+pub mod Seen
 pub mod Readings
 pub mod Children
-pub mod Prefix
+pub mod RestOf
 pub mod Rests
 pub mod Tables
-pub mod Trees
+pub mod KeepsOthers

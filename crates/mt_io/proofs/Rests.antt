@@ -1,4 +1,4 @@
--- What stands behind a prefix, and what comes of its first part.
+-- What comes after a prefix, and the child that its first part names.
 use Rattle.std.proofs.Common.{◌⊎◌, inl, inr, ◌≡◌, ◌<◌, ◌∙◌, ◌==◌, arith, ℕ, Bool, true, false, cond, List, [], ◌∷◌, ◌++◌, length, take, drop, Some, None, refl, sym, ap, nat_lt, length-drop}
 use Rattle.std.specs.Bool.{nat_eq}
 use Rattle.std.specs.Ordering.{nat_cmp, ordering_then}
@@ -36,7 +36,7 @@ rest_by prefix path rest true e h =
 pub rest_parts : (prefix path rest : List ℕ) → rest_of prefix path ≡ Some rest → (path ≡ prefix ++ rest) × (0 < length rest)
 rest_parts prefix path rest h = rest_by prefix path rest (is_below prefix path) refl h
 
-take_front : (x y : List ℕ) → take (length x) (x ++ y) ≡ x
+pub take_front : (x y : List ℕ) → take (length x) (x ++ y) ≡ x
 take_front x y = grind (arith, common_steps)
 
 drop_front : (x y : List ℕ) → drop (length x) (x ++ y) ≡ y
@@ -46,7 +46,7 @@ pub below_front : (prefix rest : List ℕ) → 0 < length rest → is_below pref
 below_front prefix rest some =
     rw (take_front prefix rest, bytes_same prefix) (grind (arith, common_steps))
 
--- a prefix with something behind it has that rest
+-- a prefix with something after it has that rest
 pub rest_made : (prefix rest : List ℕ) → 0 < length rest → rest_of prefix (prefix ++ rest) ≡ Some rest
 rest_made prefix rest some = rw (below_front prefix rest some) (ap Some (drop_front prefix rest))
 
@@ -70,7 +70,7 @@ last_byte File = []
 last_byte Folder = 47 ∷ []
 last_byte Other = []
 
--- a child's name, with `/` behind it where it is a folder
+-- a child's name, with `/` after it where it is a folder
 pub key : Named → List ℕ
 key child = child.name ++ last_byte child.kind
 

@@ -3,11 +3,11 @@ use Rattle.std.specs.Prelude.{ℕ, ◌+◌, ◌-◌, ◌^◌, ◌≤◌, min, Re
 use Rattle.mt_io.specs.declared.trouble.Trouble.{Trouble}
 use Rattle.mt_io.specs.declared.trouble.Trouble.TheVariants.{Failed}
 
--- the count of faults rose, or stands at the greatest number that its type has
+-- the count of faults rose, or is at the greatest number of its type
 abbrev pub Rose : ℕ → ℕ → Type 0
 Rose before now = min (before + 1) (2 ^ 64 - 1) ≤ now
 
--- a call that may fail or want memory: the count of faults doesn't fall, and it rose where the answer is `Failed`
+-- a call that may fail or run out of memory: the count of faults doesn't fall, and it rose where the answer is `Failed`
 pub record HasCause {T : Type 0} (before now : ℕ) (result : Result T Trouble) : Type 0 where
   pub later : before ≤ now
   pub failed : IsErrOf result Failed → Rose before now

@@ -1,5 +1,6 @@
 pub mod Causes
 pub mod Told
+pub mod Files
 pub mod Memory
 pub mod Children
-pub mod Files
+pub mod Seen

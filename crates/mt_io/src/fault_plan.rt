@@ -1,7 +1,7 @@
 //! The calls of an object in memory that fail.
-ghost use Rattle.std.specs.Prelude.{◌≡◌, ◌↔◌, ◌≤◌, OnOk, IsErr};
-ghost use Rattle.mt_io.specs.Causes.{Rose, HasOneCause};
-ghost use Rattle.mt_io.specs.Memory.{NextFails, calls_after};
+ghost use Rattle.std.specs.Prelude.{◌≡◌, ◌↔◌, ◌+◌, ◌-◌, ◌^◌, ◌≤◌, min, OnErr, OnOk, IsErr};
+ghost use Rattle.mt_io.specs.Causes.{HasOneCause};
+ghost use Rattle.mt_io.specs.Memory.{NextFails, after_fault, after_pass, plan_of};
 
 use crate::trouble::Failed;
 use std::marker::Model;
@@ -25,7 +25,7 @@ impl Model for FaultPlan {
 impl FaultPlan {
     /// The plan before the first call, whose number is 1.
     pub(crate) fn new(failing: Vec<u64>) -> FaultPlan
-        ensures { result ≡ record { failing = failing.items; calls = 0; faults = 0 } }
+        ensures { result ≡ plan_of failing.items }
     {
         FaultPlan {
             failing,
@@ -44,9 +44,8 @@ impl FaultPlan {
     /// Counts a call, and a fault where the call is one that fails.
     pub(crate) fn begin(&mut self) -> Result<(), Failed>
         ensures fails { IsErr result ↔ NextFails self.old }
-        ensures calls { self.new.calls ≡ calls_after self.old }
-        ensures failing { self.new.failing ≡ self.old.failing }
-        ensures ok { OnOk result (self.new.faults ≡ self.old.faults) }
+        ensures pass { OnOk result (self.new ≡ after_pass self.old) }
+        ensures fault { OnErr result (self.new ≡ after_fault self.old) }
         ensures cause { HasOneCause self.old.faults self.new.faults result }
     {
         self.calls = self.calls.saturating_add(1);
@@ -58,7 +57,7 @@ impl FaultPlan {
 
     /// Counts a fault.
     pub(crate) fn fault(&mut self) -> Failed
-        ensures rose { Rose self.old.faults self.new.faults }
+        ensures faults { self.new.faults ≡ min (self.old.faults + 1) (2 ^ 64 - 1) }
         ensures later { self.old.faults ≤ self.new.faults }
         ensures calls { self.new.calls ≡ self.old.calls }
         ensures failing { self.new.failing ≡ self.old.failing }

@@ -1,16 +1,16 @@
 //! Folders of files, as a program sees them.
-ghost use Rattle.std.specs.Prelude.{◌≡◌, ◌≢◌, [], ◌∷◌, ◌++◌, List, Some, IfOk, OnOk, OnErr, ℕ, Option};
+ghost use Rattle.std.specs.Prelude.{◌≡◌, ℕ, List, Some, IfOk, IsErrOf, true};
 ghost use Rattle.std.specs.FinMap as map;
-ghost use Rattle.mt_io.specs.Causes.{HasCause};
-ghost use Rattle.mt_io.specs.Files.{Files, IsChildrenOf, KeepsOthers};
+ghost use Rattle.mt_io.specs.Files.{Files, IsChildrenOf, is_folder_in};
+ghost use Rattle.mt_io.specs.Seen.{Looks, Replaces, Seen, Tells};
 
 use crate::trouble::Trouble;
+use mt_containers::List;
 use mt_path::Path;
 use mt_tokens::{Bytes, Text};
-use std::alloc::{AllocError, Global};
-use std::marker::Model;
+use std::alloc::Global;
 
-/// What a name in a folder stands for.
+/// What a name in a folder is the name of.
 #[derive(Clone, Copy, Debug, PartialEq, Eq)]
 pub enum NamedKind {
     /// A file with bytes.
@@ -26,81 +26,47 @@ pub enum NamedKind {
 pub struct Named {
     /// The name alone, without the folder's path.
     pub name: Text,
-    /// What the name stands for.
+    /// What it is the name of.
     pub kind: NamedKind,
 }
 
-/// The children of a folder, which contracts see as a list.
-#[derive(Debug, Drop)]
-pub struct NamedList {
-    items: Vec<Named>,
-}
+/// The children of a folder.
+pub type NamedList = List<Named>;
 
-impl Model for NamedList {
-    ghost use Rattle.std.specs.Prelude.{List};
+/// A tree of files.
+pub trait Folder {
+    /// What contracts see: the faults, the bytes of each file by its path, and what the folder tells beside this trait.
+    ghost seen: { Self → Seen Files };
+
     ghost use Rattle.mt_io.specs.declared.folder.Named.{Named};
 
-    ghost Value = { List Named };
+    /// What `list` may answer of a folder. Where the folder tells nothing, an answer is one that it may give, and no more
+    /// is known of it.
+    ghost lists: { List ℕ → List Named → Type 0 };
 
-    ghost view = { λ n. n.items.items };
-}
-
-impl NamedList {
-    /// A list with no names.
-    pub fn new(alloc: Global) -> NamedList
-        ensures empty { result ≡ [] }
-    {
-        NamedList {
-            items: Vec::new(alloc),
-        }
-    }
-
-    /// Adds a name at the end. After an `Err` the list is as it was.
-    pub fn push(&mut self, named: Named) -> Result<(), AllocError>
-        ensures ok { OnOk result (self.new ≡ self.old ++ named ∷ []) }
-        ensures err { OnErr result (self.new ≡ self.old) }
-    {
-        self.items.push(named)?;
-        Ok(())
-    }
-
-    /// The names as a slice.
-    pub fn as_slice(&self) -> &[Named]
-        ensures items { result.now ≡ self.now }
-    {
-        self.items.as_slice()
-    }
-}
-
-/// A tree of files. `told` is the tree, where the object tells it: then the clauses below say what
-/// each call answers and writes.
-pub trait Folder {
-    /// How many faults there were.
-    ghost count: { Self → ℕ };
-
-    /// The bytes of each file by its path, where the object tells them.
-    ghost told: { Self → Option Files };
+    /// What `read` may answer of a file.
+    ghost reads: { List ℕ → List ℕ → Type 0 };
 
     /// How many faults there were. The count stays at the greatest `u64` once it is there.
     fn faults(&self) -> u64
-        ensures count { result ≡ count self.now };
+        ensures count { result ≡ (seen self.now).faults };
 
-    /// The children of a folder, in any order. A folder with no files below it may have none.
+    /// The children of a folder that is there, in any order: the root, or a folder with a file below it.
     fn list(&mut self, alloc: Global, folder: &Path) -> Result<NamedList, Trouble>
-        ensures listed { IfOk result (λ names. (files : Files) → told self.old ≡ Some files → IsChildrenOf files folder.now names) }
-        ensures same { told self.new ≡ told self.old }
-        ensures cause { HasCause (count self.old) (count self.new) result };
+        requires there { (files : Files) → Tells (seen self.old) files → is_folder_in files folder.now ≡ true }
+        ensures listed { IfOk result (λ names. (files : Files) → Tells (seen self.old) files → IsChildrenOf files folder.now names) }
+        ensures given { IfOk result (lists folder.now) }
+        ensures looks { Looks (seen self.old) (seen self.new) (IsErrOf result Trouble.Failed) };
 
-    /// The bytes of a file.
+    /// The bytes of a file that is there.
     fn read(&mut self, alloc: Global, path: &Path) -> Result<Bytes, Trouble>
-        ensures bytes { IfOk result (λ bytes. (files : Files) → told self.old ≡ Some files → map.get files path.now ≡ Some bytes) }
-        ensures same { told self.new ≡ told self.old }
-        ensures cause { HasCause (count self.old) (count self.new) result };
+        requires there { (files : Files) → Tells (seen self.old) files → map.contains_key files path.now ≡ true }
+        ensures bytes { IfOk result (λ bytes. (files : Files) → Tells (seen self.old) files → map.get files path.now ≡ Some bytes) }
+        ensures given { IfOk result (reads path.now) }
+        ensures looks { Looks (seen self.old) (seen self.new) (IsErrOf result Trouble.Failed) };
 
     /// Makes the file of this path have these bytes. After an `Err` that file may be as it was, changed
     /// or gone; the others stay as they were.
     fn write(&mut self, alloc: Global, path: &Path, bytes: &[u8]) -> Result<(), Trouble>
-        ensures written { OnOk result ((files : Files) → told self.old ≡ Some files → told self.new ≡ Some (map.insert files path.now bytes.now)) }
-        ensures others { OnErr result ((files : Files) → told self.old ≡ Some files → KeepsOthers files path.now (told self.new)) }
-        ensures cause { HasCause (count self.old) (count self.new) result };
+        ensures replaces { Replaces (seen self.old) (seen self.new) path.now bytes.now result };
 }

@@ -3,6 +3,7 @@
 #![tactic(auto)]
 
 mod fault_plan;
+mod files;
 mod folder;
 mod gate;
 mod list_source;
@@ -10,15 +11,14 @@ mod map_folder;
 mod sink;
 mod source;
 mod store;
-#[cfg(test)]
-mod tests;
 mod trouble;
 mod vec_sink;
 
+pub use files::{children_of, has_folder};
 pub use folder::{Folder, Named, NamedKind, NamedList};
 pub use gate::{FreeGate, Gate};
 pub use list_source::{ListSource, SureSource};
-pub use map_folder::{FileTable, MapFolder, SureFolder};
+pub use map_folder::{MapFolder, SureFolder};
 pub use sink::{Sink, send_all};
 pub use source::Source;
 pub use store::Store;

@@ -1,7 +1,7 @@
 //! Sources in memory, which hand out pieces.
-ghost use Rattle.std.specs.Prelude.{◌≡◌, ◌+◌, ◌^◌, ◌≤◌, ◌<◌, [], ◌++◌, length, get_or, min, take, drop, Some, None};
-ghost use Rattle.std.specs.List.{concat};
-ghost use Rattle.mt_io.specs.Told.{Reading, read_on, reading_at};
+ghost use Rattle.std.specs.Prelude.{◌≡◌, ◌↔◌, ◌+◌, ◌^◌, ◌≤◌, ◌<◌, [], ◌++◌, length, get_or, min, take, drop, IfOk, IsErr, OnErr, Ok};
+ghost use Rattle.mt_io.specs.Memory.{NextFails, after_fault, after_pass, give, left_at, given_at, next_piece, plan_of, seen_source, seen_sure_source, unread, unspent};
+ghost use Rattle.mt_io.specs.Seen.{Reads};
 
 use crate::fault_plan::FaultPlan;
 use crate::source::Source;
@@ -9,7 +9,7 @@ use crate::trouble::Failed;
 use mt_tokens::Bytes;
 use std::marker::Model;
 
-/// Pieces that are handed out in order, which contracts see as what was given and what is left.
+/// Pieces that are handed out in order, which contracts see as what was given and the pieces that are left.
 #[derive(Debug, Drop)]
 struct Pieces {
     list: Vec<Bytes>,
@@ -19,18 +19,18 @@ struct Pieces {
 
 impl Model for Pieces {
     ghost use Rattle.std.specs.Prelude.{◌≤◌, [], length, get_or};
-    ghost use Rattle.mt_io.specs.Told.{Reading, reading_at};
+    ghost use Rattle.mt_io.specs.Memory.{PieceReading, given_at, left_at};
 
-    ghost Value = { Reading };
+    ghost Value = { PieceReading };
 
-    ghost view = { λ p. reading_at p.list.items p.piece p.at };
+    ghost view = { λ p. record { given = given_at p.list.items p.piece p.at; pieces = left_at p.list.items p.piece p.at } };
 
     ghost invariant = { λ p. p.at ≤ length (get_or p.list.items p.piece []) };
 }
 
 impl Pieces {
     fn new(list: Vec<Bytes>) -> Pieces
-        ensures { result ≡ record { given = []; left = concat list.items } }
+        ensures { result ≡ unread list.items }
     {
         Pieces {
             list,
@@ -39,13 +39,11 @@ impl Pieces {
         }
     }
 
-    /// Copies the next bytes of the piece that is next to the front of `into`, and answers how many.
+    /// Copies the first bytes of the piece that is next to the front of `into`, and answers how many: all that fit.
     fn hand_out(&mut self, into: &mut [u8]) -> usize
-        ensures within { result ≤ length into.old }
-        ensures enough { result ≤ length self.old.left }
-        ensures written { into.new ≡ take result self.old.left ++ drop result into.old }
-        ensures given { self.new ≡ read_on result self.old }
-        ensures end { 0 < length into.old → result ≡ 0 → self.old.left ≡ [] }
+        ensures count { result ≡ min (length into.old) (length (next_piece self.old.pieces)) }
+        ensures written { into.new ≡ take result (next_piece self.old.pieces) ++ drop result into.old }
+        ensures given { self.new ≡ give result self.old }
     {
         (self.piece, self.at) = next_place(self.list.as_slice(), self.piece, self.at);
         let rest = rest_of_piece(self.list.as_slice(), self.piece, self.at);
@@ -58,9 +56,9 @@ impl Pieces {
 /// The place of the next byte, past the pieces that are spent: a piece and a place in it.
 fn next_place(list: &[Bytes], piece: usize, at: usize) -> (usize, usize)
     requires { at ≤ length (get_or list.now piece []) }
-    ensures same { reading_at list.now result.0 result.1 ≡ reading_at list.now piece at }
+    ensures given { given_at list.now result.0 result.1 ≡ given_at list.now piece at }
+    ensures left { left_at list.now result.0 result.1 ≡ unspent (left_at list.now piece at) }
     ensures within { result.1 ≤ length (get_or list.now result.0 []) }
-    ensures more { result.0 < length list.now → result.1 < length (get_or list.now result.0 []) }
 {
     let mut next = piece;
     let mut from = at;
@@ -103,19 +101,19 @@ pub struct ListSource {
 }
 
 impl Model for ListSource {
-    ghost use Rattle.mt_io.specs.Memory.{Scripted};
+    ghost use Rattle.mt_io.specs.Memory.{PlannedSource};
 
-    ghost Value = { Scripted };
+    ghost Value = { PlannedSource };
 
     ghost view = { λ s. record { reading = s.pieces; plan = s.plan } };
 }
 
 impl ListSource {
-    /// A source of these pieces. The reads whose numbers, counted from 1, stand in `failing` fail; a read gives at most
+    /// A source of these pieces. The reads whose numbers, counted from 1, are in `failing` fail; a read gives at most
     /// the rest of one piece.
     pub fn new(pieces: Vec<Bytes>, failing: Vec<u64>) -> ListSource
-        ensures reading { result.reading ≡ record { given = []; left = concat pieces.items } }
-        ensures plan { result.plan ≡ record { failing = failing.items; calls = 0; faults = 0 } }
+        ensures reading { result.reading ≡ unread pieces.items }
+        ensures plan { result.plan ≡ plan_of failing.items }
     {
         ListSource {
             pieces: Pieces::new(pieces),
@@ -125,17 +123,22 @@ impl ListSource {
 }
 
 impl Source for ListSource {
-    ghost count = { λ source. source.plan.faults };
-
-    ghost told = { λ source. Some source.reading };
-
-    ghost beside = { λ _. None };
+    ghost seen = { seen_source };
 
     fn faults(&self) -> u64 {
         self.plan.faults()
     }
 
-    fn read(&mut self, into: &mut [u8]) -> Result<usize, Failed> {
+    /// Gives as many bytes of the next piece as fit. It fails exactly where the plan says so.
+    fn read(&mut self, into: &mut [u8]) -> Result<usize, Failed>
+        ensures reads { Reads (seen_source self.old) (seen_source self.new) into.old into.new result }
+        ensures fails { IsErr result ↔ NextFails self.old.plan }
+        ensures count { IfOk result (λ n. n ≡ min (length into.old) (length (next_piece self.old.reading.pieces))) }
+        ensures written { IfOk result (λ n. into.new ≡ take n (next_piece self.old.reading.pieces) ++ drop n into.old) }
+        ensures given { IfOk result (λ n. self.new ≡ record { reading = give n self.old.reading; plan = after_pass self.old.plan }) }
+        ensures fault { OnErr result (self.new ≡ record { reading = self.old.reading; plan = after_fault self.old.plan }) }
+        ensures untouched { OnErr result (into.new ≡ into.old) }
+    {
         self.plan.begin()?;
         Ok(self.pieces.hand_out(into))
     }
@@ -148,9 +151,9 @@ pub struct SureSource {
 }
 
 impl Model for SureSource {
-    ghost use Rattle.mt_io.specs.Told.{Reading};
+    ghost use Rattle.mt_io.specs.Memory.{PieceReading};
 
-    ghost Value = { Reading };
+    ghost Value = { PieceReading };
 
     ghost view = { λ s. s.pieces };
 }
@@ -158,7 +161,7 @@ impl Model for SureSource {
 impl SureSource {
     /// A source of these pieces. A read gives at most the rest of one piece.
     pub fn new(pieces: Vec<Bytes>) -> SureSource
-        ensures { result ≡ record { given = []; left = concat pieces.items } }
+        ensures { result ≡ unread pieces.items }
     {
         SureSource {
             pieces: Pieces::new(pieces),
@@ -167,17 +170,19 @@ impl SureSource {
 }
 
 impl Source for SureSource {
-    ghost count = { λ _. 0 };
-
-    ghost told = { λ source. Some source };
-
-    ghost beside = { λ _. None };
+    ghost seen = { seen_sure_source };
 
     fn faults(&self) -> u64 {
         0
     }
 
-    fn read(&mut self, into: &mut [u8]) -> Result<usize, Failed> {
+    /// Gives as many bytes of the next piece as fit, and never fails.
+    fn read(&mut self, into: &mut [u8]) -> Result<usize, Failed>
+        ensures reads { Reads (seen_sure_source self.old) (seen_sure_source self.new) into.old into.new result }
+        ensures count { result ≡ Ok (min (length into.old) (length (next_piece self.old.pieces))) }
+        ensures written { IfOk result (λ n. into.new ≡ take n (next_piece self.old.pieces) ++ drop n into.old) }
+        ensures given { IfOk result (λ n. self.new ≡ give n self.old) }
+    {
         Ok(self.pieces.hand_out(into))
     }
 }

@@ -1,7 +1,7 @@
 //! Sinks in memory.
-ghost use Rattle.std.specs.Prelude.{◌≡◌, ◌↔◌, ◌⊎◌, ◌+◌, ◌<◌, [], ◌++◌, length, min, take, Some, None, IfOk, OnErr, IsErr};
-ghost use Rattle.mt_io.specs.Causes.{HasOneCause};
-ghost use Rattle.mt_io.specs.Memory.{NextFails, calls_after};
+ghost use Rattle.std.specs.Prelude.{◌≡◌, ◌↔◌, ◌⊎◌, ◌-◌, ◌<◌, [], ◌++◌, length, min, take, IfOk, IsErr, Ok, OnErr};
+ghost use Rattle.mt_io.specs.Seen.{Takes};
+ghost use Rattle.mt_io.specs.Memory.{NextFails, after_fault, after_pass, plan_of, seen_sink, seen_sure_sink};
 
 use crate::fault_plan::FaultPlan;
 use crate::sink::Sink;
@@ -19,9 +19,9 @@ pub struct VecSink {
 
 impl Model for VecSink {
     ghost use Rattle.std.specs.Prelude.{◌+◌, ◌≤◌, vec_len, vec_capacity};
-    ghost use Rattle.mt_io.specs.Memory.{Collected};
+    ghost use Rattle.mt_io.specs.Memory.{PlannedSink};
 
-    ghost Value = { Collected };
+    ghost Value = { PlannedSink };
 
     ghost view = { λ s. record { bytes = s.bytes.items; room = s.room; plan = s.plan } };
 
@@ -29,40 +29,16 @@ impl Model for VecSink {
 }
 
 impl VecSink {
-    /// A sink with room for `room` bytes. The writes whose numbers, counted from 1, stand in `failing` fail, and so does
+    /// A sink with room for `room` bytes. The writes whose numbers, counted from 1, are in `failing` fail, and so does
     /// a write that finds no room.
     pub fn new(alloc: Global, room: usize, failing: Vec<u64>) -> Result<VecSink, AllocError>
-        ensures { IfOk result (λ sink. sink ≡ record { bytes = []; room = room; plan = record { failing = failing.items; calls = 0; faults = 0 } }) }
+        ensures { IfOk result (λ sink. sink ≡ record { bytes = []; room = room; plan = plan_of failing.items }) }
     {
         Ok(VecSink {
             bytes: Vec::with_capacity(alloc, room)?,
             room,
             plan: FaultPlan::new(failing),
         })
-    }
-
-    /// Takes as many bytes from the front of `bytes` as there is room for. It fails only where the plan says so, or where
-    /// there are bytes and no room.
-    fn take_front(&mut self, bytes: &[u8]) -> Result<usize, Failed>
-        ensures fails { IsErr result ↔ (NextFails self.old.plan ⊎ ((self.old.room ≡ 0) × (0 < length bytes.now))) }
-        ensures cause { HasOneCause self.old.plan.faults self.new.plan.faults result }
-        ensures calls { self.new.plan.calls ≡ calls_after self.old.plan }
-        ensures failing { self.new.plan.failing ≡ self.old.plan.failing }
-
-        ensures count { IfOk result (λ n. n ≡ min self.old.room (length bytes.now)) }
-        ensures some { IfOk result (λ n. 0 < length bytes.now → 0 < n) }
-        ensures room { IfOk result (λ n. self.new.room + n ≡ self.old.room) }
-        ensures taken { IfOk result (λ n. self.new.bytes ≡ self.old.bytes ++ take n bytes.now) }
-        ensures err { OnErr result ((self.new.room ≡ self.old.room) × (self.new.bytes ≡ self.old.bytes)) }
-    {
-        self.plan.begin()?;
-        let (taken, _) = bytes.split_at(self.room.min(bytes.len()));
-        if taken.is_empty() && !bytes.is_empty() {
-            return Err(self.plan.fault());
-        }
-        self.bytes.extend_from_slice(taken).unwrap();
-        self.room -= taken.len();
-        Ok(taken.len())
     }
 
     /// The bytes that were taken.
@@ -74,18 +50,30 @@ impl VecSink {
 }
 
 impl Sink for VecSink {
-    ghost count = { λ sink. sink.plan.faults };
-
-    ghost told = { λ sink. Some sink.bytes };
-
-    ghost beside = { λ _. None };
+    ghost seen = { seen_sink };
 
     fn faults(&self) -> u64 {
         self.plan.faults()
     }
 
-    fn write(&mut self, bytes: &[u8]) -> Result<usize, Failed> {
-        self.take_front(bytes)
+    /// Takes as many bytes as there is room for. It fails only where the plan says so, or where there are bytes and no
+    /// room.
+    #[tactic(auto, unfolding(crate::specs::Seen::Wrote, crate::specs::Seen::Missed))]
+    fn write(&mut self, bytes: &[u8]) -> Result<usize, Failed>
+        ensures takes { Takes (seen_sink self.old) (seen_sink self.new) bytes.now result }
+        ensures fails { IsErr result ↔ (NextFails self.old.plan ⊎ ((self.old.room ≡ 0) × (0 < length bytes.now))) }
+        ensures count { IfOk result (λ n. n ≡ min self.old.room (length bytes.now)) }
+        ensures taken { IfOk result (λ n. self.new ≡ record { bytes = self.old.bytes ++ take n bytes.now; room = self.old.room - n; plan = after_pass self.old.plan }) }
+        ensures fault { OnErr result (self.new ≡ record { bytes = self.old.bytes; room = self.old.room; plan = after_fault self.old.plan }) }
+    {
+        self.plan.begin()?;
+        let (taken, _) = bytes.split_at(self.room.min(bytes.len()));
+        if taken.is_empty() && !bytes.is_empty() {
+            return Err(self.plan.fault());
+        }
+        self.bytes.extend_from_slice(taken).unwrap();
+        self.room -= taken.len();
+        Ok(taken.len())
     }
 }
 
@@ -101,17 +89,18 @@ impl SureSink {
 }
 
 impl Sink for SureSink {
-    ghost count = { λ _. 0 };
-
-    ghost told = { λ _. None };
-
-    ghost beside = { λ _. None };
+    ghost seen = { λ _. seen_sure_sink };
 
     fn faults(&self) -> u64 {
         0
     }
 
-    fn write(&mut self, bytes: &[u8]) -> Result<usize, Failed> {
+    /// Takes all of the bytes.
+    #[tactic(auto, unfolding(crate::specs::Seen::Wrote, crate::specs::Seen::Missed))]
+    fn write(&mut self, bytes: &[u8]) -> Result<usize, Failed>
+        ensures takes { Takes seen_sure_sink seen_sure_sink bytes.now result }
+        ensures all { result ≡ Ok (length bytes.now) }
+    {
         Ok(bytes.len())
     }
 }

@@ -8,7 +8,7 @@ use Rattle.mt_path.specs.Parse.{IsPath, bounded}
 use Rattle.mt_path.specs.Names.{folder_of, last, name_of, without_last}
 use Rattle.mt_path.specs.Children.{child_of, prefix_of, suffixed}
 use Rattle.mt_path.proofs.Paths.{path_parts, push_keeps, segments_all, text_is_path}
-use Rattle.mt_path.proofs.Laws.{folder_is_path, segments_of_folder}
+use Rattle.mt_path.proofs.Segments.{folder_is_path, segments_of_folder}
 use Rattle.mt_path.proofs.Folders.{got_at, last_apart, slashed, text_of_segments, text_slashed}
 
 -- the text of segments and one more

@@ -11,7 +11,7 @@ use Rattle.std.proofs.lemmas.List.Splits.{length-slice_split}
 use Rattle.mt_path.specs.Segments.{is_segment, text_of, parts_of, segments_of}
 use Rattle.mt_path.specs.Parse.{IsPath}
 use Rattle.mt_path.specs.Names.{folder_of, last, name_of, without_last}
-use Rattle.mt_path.proofs.Cuts.{split_between}
+use Rattle.mt_path.proofs.Splits.{split_between}
 use Rattle.mt_path.proofs.Paths.{split_last, bytes_of, path_parts, all_from_none_bad, segments_all}
 
 -- each segment after a `/`
@@ -60,7 +60,7 @@ last_apart ss h = sym (take_more ss (length ss - 1) [] (omega arith)) ∙ take_a
 all_at : (ss : List (List ℕ)) (i : ℕ) → i < length ss → list_all is_segment ss ≡ true → is_segment (get_or ss i []) ≡ true
 all_at ss i inside h = and_at (list_all is_segment) is_segment refl (λ _ _. refl) ss i [] inside h
 
--- the last `/` stands before the last segment
+-- the last `/` is before the last segment
 pub cut_is_last :
     (ss : List (List ℕ)) (front name : List ℕ) → 0 < length ss → list_all is_segment ss ≡ true → text_of ss ≡ front ++ 47 ∷ name → parts_of name ≡ name ∷ []
     → (slashed (take (length ss - 1) ss) ≡ front) × (get_or ss (length ss - 1) [] ≡ name)
@@ -78,7 +78,7 @@ text_of_init : (init : List (List ℕ)) (front : List ℕ) → slashed init ≡ 
 text_of_init [] front e = rw (sym e) refl
 text_of_init (i ∷ is) front e = rw (sym e) (grind arith)
 
--- what stands at a place
+-- the element at a place
 pub got_at : (ss : List (List ℕ)) (i : ℕ) (s : List ℕ) → i < length ss → get_or ss i [] ≡ s → slice_get ss i ≡ Some s
 got_at [] i s h e = grind arith
 got_at (x ∷ xs) zero s h e = ap Some e

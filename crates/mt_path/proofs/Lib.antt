@@ -1,6 +1,6 @@
 pub mod Children
-pub mod Cuts
+pub mod Splits
 pub mod Folders
-pub mod Laws
+pub mod Segments
 pub mod Paths
 pub mod Walks

@@ -60,7 +60,7 @@ filter_keeps : (p : List ℕ → Bool) (ss : List (List ℕ)) → list_all is_se
 filter_keeps p [] h = refl
 filter_keeps p (s ∷ ss) h = let k = filter_keeps p ss (and_parts (is_segment s) (list_all is_segment ss) h).1 in grind arith
 
--- a path's text begins with `/`, and no part behind it is bad
+-- a path's text begins with `/`, and no part after it is bad
 pub path_parts : (c b : ℕ) (bs : List ℕ) → IsPath (c ∷ b ∷ bs) → (c ≡ 47) × (first_bad (parts_of (b ∷ bs)) ≡ None)
 path_parts c b bs h = (grind arith, grind arith)
 
@@ -87,7 +87,7 @@ keeps_either : (b : Bool) (x y : Option (List (List ℕ))) → (b ≡ true → K
 keeps_either true x y h k = h refl
 keeps_either false x y h k = k refl
 
--- a front of segments
+-- a prefix of segments
 pub take_keeps : (n : ℕ) (ss : List (List ℕ)) → list_all is_segment ss ≡ true → list_all is_segment (take n ss) ≡ true
 take_keeps zero ss h = refl
 take_keeps (suc n) [] h = refl

@@ -4,7 +4,7 @@ use Rattle.std.specs.Option.{option_and_then}
 use Rattle.std.proofs.lemmas.List.Folds.{fold_stuck}
 use Rattle.mt_path.specs.Join.{step, walk}
 
--- where the part behind the first ones leads nowhere, the walk leads nowhere
+-- where the part after the first ones leads nowhere, the walk leads nowhere
 pub walk_stuck :
     (at reached : List (List ℕ)) (parts front : List (List ℕ)) (i : ℕ) (part : List ℕ) → i < length parts → front ≡ take i parts → part ≡ get_or parts i part
     → walk (Some at) front ≡ Some reached → step reached part ≡ None → walk (Some at) parts ≡ None

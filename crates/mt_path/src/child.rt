@@ -22,7 +22,7 @@ impl Path {
 
     /// The path of this folder's child of that name.
     ///
-    /// None exactly where the name isn't a segment, or the text of the path would have more than `MOST_BYTES` bytes.
+    /// None exactly where the name isn't a segment, or the text of the path would have more than `MAX_BYTES` bytes.
     pub fn child(&self, alloc: Global, name: &str) -> Result<Option<Path>, AllocError>
         ensures exact { IfOk result (λ path. path ≡ child_of self.now name.now) }
         ensures text { IfOk result (λ path. IfSome path (λ text. text ≡ prefix_of self.now ++ name.now)) }
@@ -38,7 +38,7 @@ impl Path {
     /// The path whose last segment has the suffix at its end, as `/App.ios.js` is `/App` with `.ios.js`.
     ///
     /// None exactly for the root, where the last segment with the suffix isn't a segment, or where the text of the path
-    /// would have more than `MOST_BYTES` bytes.
+    /// would have more than `MAX_BYTES` bytes.
     pub fn with_suffix(&self, alloc: Global, suffix: &str) -> Result<Option<Path>, AllocError>
         ensures exact { IfOk result (λ path. path ≡ suffixed self.now suffix.now) }
         ensures text { IfOk result (λ path. IfSome path (λ text. text ≡ self.now ++ suffix.now)) }

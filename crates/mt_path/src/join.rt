@@ -65,7 +65,7 @@ impl Path {
     /// and `.` do nothing, `..` goes up one segment, and a segment goes down.
     ///
     /// None exactly where a `..` goes above the root, a part isn't a segment, or the text of the path would have more than
-    /// `MOST_BYTES` bytes.
+    /// `MAX_BYTES` bytes.
     pub fn join(alloc: Global, folder: &Path, name: &str) -> Result<Option<Path>, AllocError>
         ensures exact { IfOk result (λ path. path ≡ joined folder.now name.now) }
     {

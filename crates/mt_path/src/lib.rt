@@ -9,7 +9,5 @@ mod join;
 mod law;
 mod name;
 mod path;
-#[cfg(test)]
-mod tests;
 
-pub use path::{MOST_BYTES, Path, PathFault};
+pub use path::{MAX_BYTES, Path, PathFault, PathList, PathMap, PathSet};

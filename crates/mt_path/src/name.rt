@@ -1,9 +1,9 @@
-//! What the text of a path says of it: whether it is the root, its folder, its extension and the kind of its file.
+//! What the text of a path says of it: whether it is the root, its folder, its name, its extension and the kind of its file.
 ghost use Rattle.std.specs.Prelude.{◌≡◌, ◌==◌, [], ◌∷◌, IfOk, if◌then◌else◌, length, None};
 ghost use Rattle.std.specs.Option.{option_copied};
 ghost use Rattle.mt_path.specs.Segments.{segments_of, slash};
 ghost use Rattle.mt_path.specs.Parse.{IsPath};
-ghost use Rattle.mt_path.specs.Names.{after_dot, extension_of, folder_of, is_json, is_root, is_source, name_of};
+ghost use Rattle.mt_path.specs.Names.{after_dot, extension_of, folder_of, is_json, is_root, is_source, last, name_of};
 
 use crate::path::Path;
 use std::alloc::{AllocError, Global};
@@ -27,14 +27,14 @@ impl Path {
         self.as_str() == "/"
     }
 
-    /// What stands before the last `/`, and behind it.
+    /// The text before the last `/`, and the text after it.
     pub(crate) fn cut(&self) -> (&str, &str)
         ensures folder { folder_of self.now ≡ (if length result.0.now == 0 then slash ∷ [] else result.0.now) }
         ensures name { result.1.now ≡ name_of self.now }
         ensures path { IsPath self.now }
     {
         match self.as_str().rsplit_once('/') {
-            Some((front, name)) => (front, name),
+            Some((folder, name)) => (folder, name),
             None => ("", ""),
         }
     }
@@ -44,8 +44,8 @@ impl Path {
         ensures exact { result.now ≡ folder_of self.now }
         ensures path { IsPath result.now }
     {
-        let (front, _) = self.cut();
-        if front.is_empty() { "/" } else { front }
+        let (folder, _) = self.cut();
+        if folder.is_empty() { "/" } else { folder }
     }
 
     /// The path without its last segment; that of the root is the root.
@@ -56,8 +56,19 @@ impl Path {
         Ok(Path::from_text(text))
     }
 
-    /// What follows the last `.` of the last segment, if it has one. It may be empty, and may follow an empty front, as
-    /// in `/.js`.
+    /// The last segment, which the root doesn't have.
+    pub fn name(&self) -> Option<&str>
+        ensures exact { option_copied result ≡ last (segments_of self.now) }
+    {
+        if self.is_root() {
+            return None;
+        }
+        let (_, name) = self.cut();
+        Some(name)
+    }
+
+    /// What follows the last `.` of the last segment, if it has one. It may be empty, and so may what comes before that
+    /// `.`, as in `/.js`.
     pub fn extension(&self) -> Option<&str>
         ensures exact { option_copied result ≡ extension_of self.now }
     {

@@ -8,16 +8,17 @@ ghost use Rattle.std.proofs.Common.{refl};
 ghost use Rattle.std.specs.List.{list_all};
 ghost use Rattle.std.specs.Option.{option_map_or};
 ghost use Rattle.mt_path.specs.Segments.{is_segment, is_segment_byte, parts_of, slash};
-ghost use Rattle.mt_path.specs.Parse.{IsPath, bounded, first_bad, most_bytes, parsed};
+ghost use Rattle.mt_path.specs.Parse.{IsPath, bounded, first_bad, max_bytes, parsed};
 
+use mt_containers::{Copies, KeyMap, List, TextKey};
 use std::alloc::{AllocError, Global};
 use std::cmp::Ordering;
 use std::fmt;
 use std::marker::Model;
 use thiserror::Error;
 
-/// The most bytes that a path's text has.
-pub const MOST_BYTES: usize = 1024;
+/// The largest number of bytes that a path's text has.
+pub const MAX_BYTES: usize = 1024;
 
 /// Why a text is no path. Where several reasons hold, the first of this order is given.
 #[derive(Debug, Drop, Error)]
@@ -28,13 +29,13 @@ pub enum PathFault {
     /// The text doesn't begin with `/`.
     #[error("the text doesn't begin with /")]
     NotRooted,
-    /// The text has `len` bytes, more than `MOST_BYTES`.
+    /// The text has `len` bytes, more than `MAX_BYTES`.
     #[error("the text has {len} bytes")]
     TooLong { len: usize },
-    /// What stands between `/` isn't a segment, first at the number `at`, counted from 0.
+    /// A part between `/` isn't a segment. The first such part has the number `at`, counted from 0.
     #[error("segment {at} is not allowed")]
     BadSegment { at: usize },
-    /// There was no memory for the path.
+    /// Out of memory.
     #[error("out of memory")]
     NoMemory,
 }
@@ -47,20 +48,28 @@ pub struct Path {
     text: String,
 }
 
+/// Paths in a row.
+pub type PathList = List<Path>;
+
+/// Values by path.
+pub type PathMap<V> = KeyMap<Path, V>;
+
+/// A set of paths.
+pub type PathSet = PathMap<()>;
+
 impl Model for Path {
     ghost use Rattle.std.specs.Prelude.{List, ℕ};
     ghost use Rattle.std.specs.String.{string_bytes};
+    ghost use Rattle.mt_path.specs.Parse.{IsPath};
 
     ghost Value = { List ℕ };
-
-    ghost use Rattle.mt_path.specs.Parse.{IsPath};
 
     ghost view = { λ p. string_bytes p.text };
 
     ghost invariant = { λ p. IsPath (string_bytes p.text) };
 }
 
-/// Whether each byte may stand in a segment: no `/` and no control character.
+/// Whether each byte may be in a segment: none is `/` or a control character.
 fn has_segment_bytes(part: &[u8]) -> bool
     ensures exact { result ≡ list_all is_segment_byte part.now }
 {
@@ -92,7 +101,7 @@ fn refusal(text: &str) -> Option<PathFault>
     match text.as_bytes() {
         [] => Some(PathFault::Empty),
         [b'/', rest @ ..] => {
-            if text.len() > MOST_BYTES {
+            if text.len() > MAX_BYTES {
                 return Some(PathFault::TooLong { len: text.len() });
             }
             if rest.is_empty() {
@@ -121,10 +130,10 @@ impl Path {
 
     /// The path of a text of segments, where it isn't too long.
     pub(crate) fn bounded(text: String) -> Option<Path>
-        requires path { length (string_bytes text) ≤ most_bytes → IsPath (string_bytes text) }
+        requires path { length (string_bytes text) ≤ max_bytes → IsPath (string_bytes text) }
         ensures exact { result ≡ bounded (string_bytes text) }
     {
-        if text.len() > MOST_BYTES {
+        if text.len() > MAX_BYTES {
             return None;
         }
         Some(Path { text })
@@ -164,6 +173,10 @@ impl Clone for Path {
     }
 }
 
+impl Copies for Path {
+    ghost copies = { λ x y h. h };
+}
+
 impl PartialEq for Path {
     ghost eq = { pointwise nat_eq };
 
@@ -200,6 +213,19 @@ impl Ord for Path {
     fn cmp(&self, other: &Path) -> Ordering {
         self.text.as_str().cmp(other.text.as_str())
     }
+}
+
+/// A path's text is what contracts see of it.
+impl TextKey for Path {
+    ghost use Rattle.mt_containers.specs.Texts.{own_texts, own_entries};
+
+    ghost text = { λ p. p };
+
+    ghost texts = { own_texts };
+
+    ghost entries = { own_entries };
+
+    ghost by_text = { λ x y. refl };
 }
 
 /// Writes the path's text.

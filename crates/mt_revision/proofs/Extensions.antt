@@ -1,5 +1,5 @@
 -- Paths with new ones behind them.
-use Rattle.std.proofs.Common.{◌≡◌, ◌≤◌, ◌<◌, ◌+◌, ◌∙◌, ℕ, Bool, true, false, not, ◌||◌, cond, nat_lt, List, [], ◌∷◌, ◌++◌, length, filter, take, drop, get_or, Option, Some, None, zero, suc, refl, ap, sym, arith, append-nil, append_assoc, length-append, subst}
+use Rattle.std.proofs.Common.{inl, inr, ◌≡◌, ◌≤◌, ◌<◌, ◌+◌, ◌∙◌, ℕ, Bool, true, false, not, ◌||◌, cond, nat_lt, List, [], ◌∷◌, ◌++◌, length, filter, take, drop, get_or, Option, Some, None, zero, suc, refl, ap, sym, arith, append-nil, append_assoc, length-append, subst}
 use Rattle.std.specs.List.{list_any, IsDistinct, AllByRecursion}
 use Rattle.std.specs.List.Sorted.{IsStrictlySortedBy}
 use Rattle.std.specs.Str.{bytes_eq}
@@ -11,7 +11,9 @@ use Rattle.std.proofs.lemmas.List.Filters.{length-filter_both}
 use Rattle.std.proofs.lemmas.List.Folds.{list_any-append}
 use Rattle.std.proofs.lemmas.Map.Keys.{IsDistinct-push, IsDistinct-head, IsDistinct-tail, IsDistinct-from_sorted}
 use Rattle.std.proofs.lemmas.Map.Text.{is_eq-slice_cmp}
+use Rattle.std.proofs.lemmas.Bool.{cases_Bool}
 use Rattle.std.proofs.lemmas.Bool.Decides.{nat_tests}
+use Rattle.mt_files.proofs.PathLists.{Has, append_left, append_right, filter_has}
 use Rattle.std.specs.Option.{is_some}
 use Rattle.std.specs.FinMap.{FinMap, get, insert}
 use Rattle.mt_revision.specs.Numberings.{AreNumbers, extended, has_path, number_in, with_new}
@@ -123,13 +125,25 @@ ascending_distinct ks h = distinct_as ks (IsDistinct-from_sorted (slice_cmp nat_
 pub extended_distinct : (numbering entries members : List (List ℕ)) → IsDistinct bytes_eq numbering → IsDistinct bytes_eq entries → IsDistinct bytes_eq members → IsDistinct bytes_eq (extended numbering entries members)
 extended_distinct numbering entries members h k m = with_new_distinct (with_new numbering entries) members (with_new_distinct numbering entries h k) m
 
-take_front : (xs zs : List (List ℕ)) → take (length xs) (xs ++ zs) ≡ xs
-take_front [] zs = refl
-take_front (x ∷ xs) zs = ap (λ ys. x ∷ ys) (take_front xs zs)
+-- the old numbering is a prefix of the new one, so each number is kept
+pub extended_more : (numbering entries members : List (List ℕ)) → (more : List (List ℕ)) × (extended numbering entries members ≡ numbering ++ more)
+extended_more numbering entries members = (_, append_assoc numbering _ _)
 
--- the old numbering is the front part of the new one, so each number is kept
-pub extended_keeps : (numbering entries members : List (List ℕ)) → take (length numbering) (extended numbering entries members) ≡ numbering
-extended_keeps numbering entries members = ap (take (length numbering)) (append_assoc numbering _ _) ∙ take_front numbering _
+-- what was there, and what was to be added, is there
+pub new_has_old : (ps others : List (List ℕ)) (q : List ℕ) → Has ps q → Has (with_new ps others) q
+new_has_old ps others q h = append_left ps (filter (λ p. not (has_path ps p)) others) q h
+
+pub new_has : (ps others : List (List ℕ)) (q : List ℕ) → Has others q → Has (with_new ps others) q
+new_has ps others q h = elim (cases_Bool (has_path ps q)) [
+  | inl old ↦ new_has_old ps others q old
+  | inr new ↦ append_right ps (filter (λ p. not (has_path ps p)) others) q (filter_has (λ p. not (has_path ps p)) others q h (ap not new))
+]
+
+pub extended_entry : (numbering entries members : List (List ℕ)) (q : List ℕ) → Has entries q → Has (extended numbering entries members) q
+extended_entry numbering entries members q h = new_has_old (with_new numbering entries) members q (new_has numbering entries q h)
+
+pub extended_member : (numbering entries members : List (List ℕ)) (q : List ℕ) → Has members q → Has (extended numbering entries members) q
+extended_member numbering entries members q h = new_has (with_new numbering entries) members q h
 
 some_if : (k : ℕ) (b : Bool) → is_some (cond b (Some k) None) ≡ b
 some_if k true = refl
@@ -163,3 +177,27 @@ extended_short numbering entries members = let a = with_new_short numbering entr
 pub one_apart : (p : List ℕ) → IsDistinct bytes_eq (p ∷ [])
 unfolding IsDistinct
 one_apart p = (tt, tt)
+
+-- the first of the paths that are left, and then the rest
+pub with_rest : (ps more left rest : List (List ℕ)) (q : List ℕ) → left ≡ q ∷ rest → IsDistinct bytes_eq left → more ≡ with_new ps (q ∷ []) → with_new more rest ≡ with_new ps left
+with_rest ps more left rest q e h m =
+    let d : IsDistinct bytes_eq (q ∷ rest) = subst (IsDistinct bytes_eq) e h in
+    ap (λ z. with_new z rest) m ∙ with_first ps q rest (IsDistinct-head bytes_eq q rest d) ∙ ap (with_new ps) (sym e)
+
+pub distinct_rest : (left rest : List (List ℕ)) (q : List ℕ) → left ≡ q ∷ rest → IsDistinct bytes_eq left → IsDistinct bytes_eq rest
+distinct_rest left rest q e h = IsDistinct-tail bytes_eq q rest (subst (IsDistinct bytes_eq) e h)
+
+-- so many paths at most, with the first of those that are left
+pub few_rest : (ps more left rest : List (List ℕ)) (q : List ℕ) (n : ℕ) → left ≡ q ∷ rest → more ≡ with_new ps (q ∷ []) → length ps + length left ≤ n → length more + length rest ≤ n
+few_rest ps more left rest q n e m w =
+    let h : length more ≡ length (with_new ps (q ∷ [])) = ap length m in
+    let k : length left ≡ length (q ∷ rest) = ap length e in
+    let l = one_longer ps q in
+    omega (arith, h, k, l, w)
+
+pub few_left : (left rest : List (List ℕ)) (q : List ℕ) (a n m : ℕ) → left ≡ q ∷ rest → a + length left ≤ n → n < m → a + 1 < m
+few_left left rest q a n m e w v = let k : length left ≡ length (q ∷ rest) = ap length e in omega (arith, k, w, v)
+
+-- a path that isn't there is distinct from the others
+pub pushed_distinct : (ps : List (List ℕ)) (q : List ℕ) → has_path ps q ≡ false → IsDistinct bytes_eq ps → IsDistinct bytes_eq (ps ++ q ∷ [])
+pushed_distinct ps q e h = IsDistinct-push nat_list_eq_equiv ps q h e

@@ -8,7 +8,7 @@ use Rattle.std.specs.Cmp.{nat_cmp_total, unsigned_tied}
 use Rattle.std.specs.FinMap.{empty, entries, find, get, get-empty, get-from_entries, get-insert, insert, nat_cmp-IsAntisymmetric, same_map}
 use Rattle.std.specs.declared.cmp.Ordering.TheVariants.{Less}
 use Rattle.std.proofs.lemmas.Map.Keys.{sorted_head, sorted_tail}
-use Rattle.mt_io.proofs.Tables.{keys_sorted}
+use Rattle.mt_containers.proofs.Tables.{keys_sorted}
 use Rattle.mt_revision.specs.Texts.{Modules, Texts, text_in, texts_of}
 use Rattle.mt_revision.specs.declared.modules.Module.{Module}
 use Rattle.mt_revision.proofs.Sets.{same_number}

@@ -8,7 +8,7 @@ use Rattle.std.specs.Cmp.{nat_cmp_total, unsigned_tied}
 use Rattle.std.specs.FinMap.{contains_key, entries, find, get, get-entries, get-from_entries, keys, nat_cmp-IsAntisymmetric, same_map}
 use Rattle.std.proofs.lemmas.Bool.{and_parts}
 use Rattle.std.proofs.lemmas.Cmp.{nat_eq_equiv}
-use Rattle.mt_files.proofs.Reaches.{same_path}
+use Rattle.mt_files.proofs.PathLists.{same_path}
 use Rattle.mt_revision.specs.Texts.{Texts, differs}
 use Rattle.mt_revision.specs.Held.{applied, delta, fits}
 use Rattle.mt_revision.proofs.Sets.{has_number, has_passing, same_number}

@@ -6,7 +6,7 @@ use Rattle.std.specs.Ordering.{nat_cmp}
 use Rattle.std.specs.FinMap.{contains_key, entries, get, keys}
 use Rattle.std.proofs.lemmas.List.Folds.{list_any-append}
 use Rattle.std.proofs.lemmas.List.Kept.{IsStrictlySortedBy-filter}
-use Rattle.mt_io.proofs.Tables.{keys_sorted}
+use Rattle.mt_containers.proofs.Tables.{keys_sorted}
 use Rattle.mt_revision.specs.Held.{ascending, delta, touched_between}
 use Rattle.mt_revision.specs.Texts.{Texts, differs}
 use Rattle.mt_revision.proofs.Sets.{ascending_sorted, has_ascending, has_number, has_passing, sorted_same}

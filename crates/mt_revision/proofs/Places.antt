@@ -12,7 +12,7 @@ use Rattle.std.proofs.lemmas.List.Folds.{position_or_len_push}
 use Rattle.std.proofs.lemmas.List.Sums.{prefix_len-le-length}
 use Rattle.std.proofs.lemmas.Map.Text.{is_eq-slice_cmp}
 use Rattle.mt_revision.specs.Numberings.{AreNumbers, number_in, place_in}
-use Rattle.mt_files.proofs.Reaches.{same_path}
+use Rattle.mt_files.proofs.PathLists.{same_path}
 
 number_within : (ps : List (List ℕ)) (q : List ℕ) → number_in ps q ≤ length ps
 number_within ps q = prefix_len-le-length (λ x. not (bytes_eq q x)) ps

@@ -12,7 +12,7 @@ use Rattle.std.proofs.lemmas.List.{length-map}
 use Rattle.std.proofs.lemmas.Map.Keys.{IsDistinct-from_sorted}
 use Rattle.std.proofs.lemmas.Map.Made.{is_member-filter}
 use Rattle.std.proofs.lemmas.Map.Steps.{length-le_from_distinct_below}
-use Rattle.mt_io.proofs.Tables.{keys_sorted}
+use Rattle.mt_containers.proofs.Tables.{keys_sorted}
 use Rattle.std.specs.declared.cmp.Ordering.TheVariants.{Less, Equal, Greater}
 use Rattle.mt_revision.specs.Held.{ascending}
 
@@ -138,3 +138,10 @@ has_ascending (k ∷ ns) n =
 
 pub ascending_sorted : (ns : List ℕ) → IsStrictlySortedBy nat_cmp (ascending ns)
 ascending_sorted ns = keys_sorted nat_cmp (from_entries {R = nat_cmp} (map (λ k. (k, k)) ns))
+
+less_by : (b a : ℕ) (c : Bool) → b < a → nat_lt b a ≡ c → cond c Less (cond (nat_eq b a) Equal Greater) ≡ Less
+less_by b a true w e = refl
+less_by b a false w e = absurd (grind (arith, nat_tests))
+
+pub less_is : (b a : ℕ) → b < a → nat_cmp b a ≡ Less
+less_is b a w = less_by b a (nat_lt b a) w refl

@@ -1,9 +1,9 @@
 -- Slots that are equal by test are equal.
 use Rattle.std.proofs.Common.{◌≡◌, Bool, true, false, not, ◌&&◌, List, [], ◌∷◌, ap, refl}
 use Rattle.std.specs.Cmp.Lexicographic.{pointwise}
-use Rattle.mt_fresh.specs.declared.mt_write.Slot.{Slot}
-use Rattle.mt_fresh.specs.declared.mt_write.Slot.TheVariants.{Module, Empty}
-use Rattle.mt_fresh.specs.contracts.mt_write.SlotPartialEq.TheImpl as derived
+use Rattle.mt_write.specs.declared.slot.Slot.{Slot}
+use Rattle.mt_write.specs.declared.slot.Slot.TheVariants.{Module, Empty}
+use Rattle.mt_write.specs.contracts.slot.SlotPartialEq.TheImpl as derived
 use Rattle.mt_revision.proofs.Sets.{same_number}
 
 slot_same : (x y : Slot) → (derived.eq-value).it x y ≡ true → x ≡ y

@@ -9,7 +9,7 @@ use Rattle.std.specs.FinMap.{contains_key, entries, find, get, get-empty, get-en
 use Rattle.std.specs.FinSet.{FinSet}
 use Rattle.std.proofs.lemmas.List.Folds.{list_any-append}
 use Rattle.std.proofs.lemmas.Cmp.{nat_list_eq_equiv}
-use Rattle.mt_io.proofs.Tables.{keys_sorted}
+use Rattle.mt_containers.proofs.Tables.{keys_sorted}
 use Rattle.mt_revision.specs.Texts.{Modules, differs, other_text, text_in, texts_of}
 use Rattle.mt_revision.specs.Held.{ascending, touched_between}
 use Rattle.mt_revision.specs.Revisions.{held_before, module_had}

@@ -1,30 +1,40 @@
 -- The log of builds, and when it is legal.
-use Rattle.std.specs.Prelude.{◌≡◌, ◌≤◌, ◌+◌, ℕ, true, List, [], ◌∷◌, length, take, Option, Some, None, Ok, Err}
-use Rattle.std.specs.Option.{option_map_or}
-use Rattle.std.specs.FinMap.{keys}
+use Rattle.std.specs.Prelude.{◌≡◌, ◌≤◌, ℕ, List, [], ◌∷◌, length, take, Option, Some, None, Err}
+use Rattle.std.specs.List.{filter_map, fold}
+use Rattle.mt_files.specs.Asks.{Ask}
 use Rattle.mt_files.specs.Snapshots.{Snapshot}
 use Rattle.mt_files.specs.Changes.{stepped_by}
+use Rattle.mt_files.specs.Reach.{reach}
+use Rattle.mt_files.specs.Fresh.{fresh}
 use Rattle.mt_files.specs.declared.change.Change.{Change}
 use Rattle.mt_files.specs.declared.build_fault.BuildFault.{BuildFault}
-use Rattle.mt_fresh.specs.Graphs.{GraphMap, fresh_graph}
 use Rattle.mt_revision.specs.Numberings.{extended}
-use Rattle.mt_revision.specs.Texts.{Texts}
-use Rattle.mt_revision.specs.Builds.{bundle_in, held_in}
+use Rattle.mt_revision.specs.Revisions.{WasMadeAfter}
+use Rattle.mt_revision.specs.Contents.{HasContent}
+use Rattle.mt_revision.specs.declared.revision.Revision.{Revision}
 
--- what a build gave: its number, how many changes were accepted before it, and the texts of its modules
-pub record Published : Type 0 where
-  pub number : ℕ
-  pub changes : ℕ
-  pub held : Texts
+-- a build as the log has it: its revision, or how many changes were taken before it and its first fault
+pub data Logged : Type 0 where
+  Accepted : Revision → Logged
+  Denied : ℕ → BuildFault → Logged
 
--- a build as the log has it: its revision with its bundle, or its first fault and how many changes were accepted before it
-pub data LogEntry : Type 0 where
-  Revised : Published → List ℕ → LogEntry
-  Denied : ℕ → BuildFault → LogEntry
+-- how many changes were taken before a build
+abbrev pub count_of : Logged → ℕ
+count_of (Accepted revision) = revision.changes
+count_of (Denied count fault) = count
 
--- what a log has reached: its last revision, the count of changes of its last build, and the numbered paths
+-- the revision of a build, if it gave one
+abbrev pub revision_of : Logged → Option Revision
+revision_of (Accepted revision) = Some revision
+revision_of (Denied count fault) = None
+
+-- the revisions of a log
+abbrev pub revisions_of : List Logged → List Revision
+revisions_of log = filter_map revision_of log
+
+-- what a log has reached: its latest revision, the count of its last build, and the paths that have numbers
 pub record Reached : Type 0 where
-  pub latest : Option Published
+  pub latest : Option Revision
   pub count : ℕ
   pub numbering : List (List ℕ)
 
@@ -36,34 +46,42 @@ unlogged = record { latest = None; count = 0; numbering = [] }
 abbrev pub files_at : Snapshot → List Change → ℕ → Snapshot
 files_at files journal count = stepped_by files (take count journal)
 
--- the number of the revision after this one, or of the first
-abbrev pub number_after : Option Published → ℕ
-number_after latest = option_map_or (λ r. r.number + 1) latest 1
+-- the numbering under which files are built: that of the builds before, and the entries and modules that had no number
+abbrev pub numbering_at : Ask → Reached → Snapshot → List (List ℕ)
+numbering_at ask before files = extended before.numbering ask.entries (reach ask files)
 
--- a revision that may come next: it counts no fewer changes than the build before, has the next number, and has the texts and the bundle of a fresh graph of the files that it counts, under the numbers so far and those of the paths that had none
-pub record IsRevised (files : Snapshot) (entries : List (List ℕ)) (journal : List Change) (before : Reached) (revision : Published) (bundle : List ℕ) (now : Reached) : Type 0 where
+-- what is reached with one more build: a refusal gives no number and no revision
+abbrev pub reached_after : Ask → Snapshot → List Change → Reached → Logged → Reached
+reached_after ask files journal before (Accepted revision) = record { latest = Some revision; count = revision.changes; numbering = numbering_at ask before (files_at files journal revision.changes) }
+reached_after ask files journal before (Denied count fault) = record { latest = before.latest; count = count; numbering = before.numbering }
+
+-- what is reached with builds one after another
+abbrev pub reached_by : Ask → Snapshot → List Change → Reached → List Logged → Reached
+reached_by ask files journal before log = fold (reached_after ask files journal) before log
+
+-- a revision that may come next: it counts no fewer changes than the build before, was made after the latest revision, and has what is asked for of the files that it counts
+pub record IsAccepted (ask : Ask) (files : Snapshot) (journal : List Change) (before : Reached) (revision : Revision) : Type 0 where
   pub later : before.count ≤ revision.changes
   pub counted : revision.changes ≤ length journal
-  pub number : revision.number ≡ number_after before.latest
-  pub graph : GraphMap
-  pub fresh : fresh_graph (files_at files journal revision.changes) entries ≡ Ok graph
-  pub held : revision.held ≡ held_in true now.numbering graph
-  pub bundled : bundle ≡ bundle_in true now.numbering entries graph
-  pub reached : now ≡ record { latest = Some revision; count = revision.changes; numbering = extended before.numbering entries (keys graph) }
+  pub made : WasMadeAfter before.latest revision
+  pub content : HasContent ask revision (numbering_at ask before (files_at files journal revision.changes)) (files_at files journal revision.changes)
 
--- a refusal that may come next: it counts no fewer changes than the build before, names the first fault of the files that it counts, and changes no number
-pub record IsDenied (files : Snapshot) (entries : List (List ℕ)) (journal : List Change) (before : Reached) (changes : ℕ) (fault : BuildFault) (now : Reached) : Type 0 where
-  pub later : before.count ≤ changes
-  pub counted : changes ≤ length journal
-  pub first : fresh_graph (files_at files journal changes) entries ≡ Err fault
-  pub reached : now ≡ record { latest = before.latest; count = changes; numbering = before.numbering }
+-- a refusal that may come next: it counts no fewer changes than the build before, and names the first fault of the files that it counts
+pub record IsDenied (ask : Ask) (files : Snapshot) (journal : List Change) (before : Reached) (count : ℕ) (fault : BuildFault) : Type 0 where
+  pub later : before.count ≤ count
+  pub counted : count ≤ length journal
+  pub first : fresh ask (files_at files journal count) ≡ Err fault
 
 -- a build that may come next
-abbrev pub IsNext : Snapshot → List (List ℕ) → List Change → Reached → LogEntry → Reached → Type 0
-IsNext files entries journal before (Revised revision bundle) now = IsRevised files entries journal before revision bundle now
-IsNext files entries journal before (Denied changes fault) now = IsDenied files entries journal before changes fault now
+abbrev pub IsNext : Ask → Snapshot → List Change → Reached → Logged → Type 0
+IsNext ask files journal before (Accepted revision) = IsAccepted ask files journal before revision
+IsNext ask files journal before (Denied count fault) = IsDenied ask files journal before count fault
 
--- a log in which each build may come next after the one before
-abbrev pub IsLegal : Snapshot → List (List ℕ) → List Change → Reached → List LogEntry → Reached → Type 0
-IsLegal files entries journal before [] now = now ≡ before
-IsLegal files entries journal before (entry ∷ log) now = (between : Reached) × (IsNext files entries journal before entry between × IsLegal files entries journal between log now)
+-- a log of which each build may come next after those before it
+abbrev pub IsLegalAfter : Ask → Snapshot → List Change → Reached → List Logged → Type 0
+IsLegalAfter ask files journal before [] = Unit
+IsLegalAfter ask files journal before (build ∷ log) = IsNext ask files journal before build × IsLegalAfter ask files journal (reached_after ask files journal before build) log
+
+-- a legal log
+abbrev pub IsLegal : Ask → Snapshot → List Change → List Logged → Type 0
+IsLegal ask files journal log = IsLegalAfter ask files journal unlogged log

@@ -1,10 +1,10 @@
 -- Revisions of a build.
-use Rattle.std.specs.Prelude.{ℕ, ◌+◌, ◌++◌, Bool, List, Option}
+use Rattle.std.specs.Prelude.{◌≡◌, ℕ, ◌+◌, ◌++◌, Bool, List, Option}
 use Rattle.std.specs.List.{flat_map}
-use Rattle.std.specs.Option.{option_and_then, option_map_or}
+use Rattle.std.specs.Option.{IfSome, option_and_then, option_map_or}
 use Rattle.std.specs.FinMap.{empty, entries, get}
-use Rattle.mt_fresh.specs.Bundle.{prelude}
-use Rattle.mt_fresh.specs.Modules.{start_of}
+use Rattle.mt_write.specs.Bundle.{prelude}
+use Rattle.mt_write.specs.Modules.{start_of}
 use Rattle.mt_revision.specs.Texts.{Modules, Texts, text_in, texts_of}
 use Rattle.mt_revision.specs.Held.{touched_between}
 use Rattle.mt_revision.specs.declared.modules.Module.{Module}
@@ -30,7 +30,13 @@ bundle_of r = prelude r.dev ++ flat_map (λ e. text_in r.dev e.0 e.1) (entries r
 abbrev pub next_number : Option Revision → ℕ
 next_number before = option_map_or (λ r. r.number + 1) before 1
 
--- the revision of these parts that comes after another one, or the first
+-- a revision that was made after another one, or as the first: it has the next number, from 1; it is for development where the one before is; and it names, ascending, the numbers whose texts are not those that were held before it
+pub record WasMadeAfter (before : Option Revision) (revision : Revision) : Type 0 where
+  pub number : revision.number ≡ next_number before
+  pub dev : IfSome before (λ b. revision.dev ≡ b.dev)
+  pub touched : revision.touched ≡ touched_between (held_before before) (held_of revision)
+
+-- the revision of these parts that comes after another one, or is the first
 abbrev pub made_after : Option Revision → Bool → ℕ → List ℕ → Modules → Revision
 made_after before dev changes starts modules = record {
   number = next_number before;

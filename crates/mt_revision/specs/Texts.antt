@@ -4,7 +4,7 @@ use Rattle.std.specs.Option.{option_map}
 use Rattle.std.specs.Str.{bytes_eq}
 use Rattle.std.specs.Ordering.{nat_cmp}
 use Rattle.std.specs.FinMap.{FinMap, entries, from_entries}
-use Rattle.mt_fresh.specs.Modules.{module_of}
+use Rattle.mt_write.specs.Modules.{module_of}
 use Rattle.mt_revision.specs.declared.modules.Module.{Module}
 
 -- modules by their numbers

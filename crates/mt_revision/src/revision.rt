@@ -5,10 +5,9 @@ ghost use Rattle.std.specs.FinMap as map;
 ghost use Rattle.std.specs.Prelude.{nat_eq, nat_le, filter};
 ghost use Rattle.std.specs.List.{slice_get};
 
-use crate::lists::NumberList;
 use crate::modules::{Module, ModuleMap};
 use crate::touched::touched_since;
-use mt_tokens::Shared;
+use mt_containers::{List, Shared};
 use std::alloc::{AllocError, Global};
 
 /// What a build made: its modules under their numbers.
@@ -21,15 +20,15 @@ pub struct Revision {
     /// Whether its bundle is for development.
     pub dev: bool,
     /// The numbers of the entries, in their order.
-    pub entries: NumberList,
+    pub entries: List<u32>,
     /// The modules by their numbers.
     pub modules: ModuleMap,
     /// The numbers whose module text isn't that of the revision before, ascending.
-    pub touched: NumberList,
+    pub touched: List<u32>,
 }
 
 impl Revision {
-    ghost use Rattle.mt_revision.specs.Revisions.{made_after, next_number};
+    ghost use Rattle.mt_revision.specs.Revisions.{WasMadeAfter, made_after, next_number};
 
     /// The number of the revision after this one, or of the first.
     fn next_number(before: Option<&Revision>) -> u32
@@ -42,18 +41,19 @@ impl Revision {
         }
     }
 
-    /// The revision of these parts that comes after another one, or the first. Refused only for want of memory.
+    /// The revision of these parts that comes after another one, or the first. Refused only where memory runs out.
     pub fn make(
         alloc: Global,
         before: Option<&Revision>,
         dev: bool,
         changes: u32,
-        entries: NumberList,
+        entries: List<u32>,
         modules: ModuleMap,
     ) -> Result<Revision, AllocError>
         requires number { IfSome (option_copied before) (λ b. b.number < 4294967295) }
         requires dev { IfSome (option_copied before) (λ b. b.dev ≡ dev) }
         ensures exact { IfOk result (λ r. r ≡ made_after (option_copied before.entry) dev changes entries modules) }
+        ensures made { IfOk result (λ r. WasMadeAfter (option_copied before.entry) r) }
     {
         let touched = touched_since(alloc, before, dev, &modules)?;
         Ok(Revision {

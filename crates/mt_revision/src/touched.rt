@@ -8,62 +8,23 @@ ghost use Rattle.mt_revision.specs.Texts.{other_text, text_in, texts_of};
 ghost use Rattle.mt_revision.specs.Held.{touched_between};
 ghost use Rattle.mt_revision.specs.Revisions.{held_before, module_had};
 
-use crate::lists::NumberList;
 use crate::modules::{Module, ModuleMap};
 use crate::revision::Revision;
-use mt_tokens::Shared;
+use mt_containers::{List, NumberSet, Shared};
 use std::alloc::{AllocError, Global};
-use std::collections::BTreeMap;
-use std::marker::Model;
-
-/// Numbers, which contracts see as a finite set.
-#[derive(Drop)]
-struct NumberSet {
-    tree: BTreeMap<u32, ()>,
-}
-
-impl Model for NumberSet {
-    ghost use Rattle.std.specs.FinMap as map;
-    ghost use Rattle.std.specs.FinSet as set;
-    ghost use Rattle.std.specs.Ordering.{nat_cmp};
-    ghost use Rattle.std.specs.Coded.{coded_ℕ};
-
-    ghost Value = { set.FinSet nat_cmp };
-
-    ghost coded = { set.code coded_ℕ };
-
-    ghost view = { λ s. map.from_entries s.tree.entries };
-}
-
-impl NumberSet {
-    fn new(alloc: Global) -> NumberSet
-        ensures empty { result ≡ map.empty }
-    {
-        NumberSet {
-            tree: BTreeMap::new(alloc),
-        }
-    }
-
-    fn insert(&mut self, number: u32) -> Result<(), AllocError>
-        ensures ok { OnOk result (self.new ≡ map.insert self.old number tt) }
-    {
-        self.tree.insert(number, ())?;
-        Ok(())
-    }
-}
 
 /// Takes in the numbers of modules.
 fn add_numbers(numbers: &mut NumberSet, modules: &ModuleMap) -> Result<(), AllocError>
     ensures added { OnOk result ((n : ℕ) → map.contains_key numbers.new n ≡ (map.contains_key modules.now n || map.contains_key numbers.old n)) }
 {
-    for number in modules.tree.keys() {
-        numbers.insert(*number)?;
+    for number in modules.by_number.keys() {
+        numbers.insert(*number, ())?;
     }
     Ok(())
 }
 
-/// Whether two modules have the same path, the same body and the same slots, so that their texts under one number are the
-/// same.
+/// Whether two modules have the same path, the same body and the same slots, so that their texts under each number are
+/// the same.
 fn have_same_parts(a: &Module, b: &Module) -> bool
     ensures parts { result ≡ true → (a.now.path ≡ b.now.path) × (a.now.output.body ≡ b.now.output.body) × (a.now.slots ≡ b.now.slots) }
 {
@@ -73,7 +34,7 @@ fn have_same_parts(a: &Module, b: &Module) -> bool
     if a.slots.as_slice() != b.slots.as_slice() {
         return false;
     }
-    a.output.get().body.as_slice() == b.output.get().body.as_slice()
+    a.output.body() == b.output.body()
 }
 
 /// Whether two modules have the same text under a number.
@@ -105,7 +66,7 @@ fn have_other_text(
     ensures other { IfOk result (λ other. other ≡ other_text dev number (option_copied a.entry) (option_copied b.entry)) }
 {
     match (a, b) {
-        (Some(a), Some(b)) => Ok(!have_same_text(alloc, number, dev, a.get(), b.get())?),
+        (Some(a), Some(b)) => Ok(!have_same_text(alloc, number, dev, a, b)?),
         (None, None) => Ok(false),
         _ => Ok(true),
     }
@@ -155,11 +116,11 @@ fn touched_among(
     before: Option<&Revision>,
     dev: bool,
     modules: &ModuleMap,
-) -> Result<NumberList, AllocError>
+) -> Result<List<u32>, AllocError>
     ensures touched { IfOk result (λ touched. touched ≡ filter (λ n. other_text dev n (module_had (option_copied before.entry) n) (map.get modules.now n)) (map.keys numbers.now)) }
 {
-    let mut touched = NumberList::new(alloc);
-    for number in numbers.tree.keys() {
+    let mut touched = List::new(alloc);
+    for number in numbers.keys() {
         let old = module_before(before, *number);
         if have_other_text(alloc, *number, dev, old, modules.get(*number))? {
             touched.push(*number)?;
@@ -174,7 +135,7 @@ pub(crate) fn touched_since(
     before: Option<&Revision>,
     dev: bool,
     modules: &ModuleMap,
-) -> Result<NumberList, AllocError>
+) -> Result<List<u32>, AllocError>
     requires dev { IfSome (option_copied before) (λ b. b.dev ≡ dev) }
     ensures touched { IfOk result (λ touched. touched ≡ touched_between (held_before (option_copied before.entry)) (texts_of dev modules.now)) }
 {

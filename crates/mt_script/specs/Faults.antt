@@ -1,16 +1,22 @@
--- Why a script gave no command, and when a call answers so.
-use Rattle.std.specs.Prelude.{ℕ, ◌≡◌, ◌≤◌, ◌⊎◌, Result, Ok, Err, IsErrOf}
-use Rattle.mt_io.specs.Causes.{Rose}
+-- Why a script gave no command, and how a fault stays.
+use Rattle.std.specs.Prelude.{◌≡◌, ◌⊎◌, Result, Ok, Err}
+use Rattle.mt_io.specs.declared.trouble.Trouble.{Trouble}
+use Rattle.mt_io.specs.declared.trouble.Trouble.TheVariants as trouble
 use Rattle.mt_script.specs.declared.command.Command.{Command}
 use Rattle.mt_script.specs.declared.fault.ScriptFault.{ScriptFault}
 use Rattle.mt_script.specs.declared.fault.ScriptFault.TheVariants.{FileTooLarge, Failed, NoMemory}
 
--- the fault that keeps a path
+-- the fault that a trouble of the source is
+abbrev pub trouble_fault : Trouble → ScriptFault
+trouble_fault trouble.Failed = Failed
+trouble_fault trouble.NoMemory = NoMemory
+
+-- the fault that has a path
 abbrev pub HasPath : ScriptFault → Type 0
 HasPath (FileTooLarge path size) = Unit {0}
 HasPath fault = ⊥
 
--- the same fault once more; only where it keeps a path, there may be no memory for that
+-- the same fault once more; only where it has a path, memory can run out for that
 abbrev pub Copies : ScriptFault → ScriptFault → Type 0
 Copies (FileTooLarge path size) copy = (copy ≡ FileTooLarge path size) ⊎ (copy ≡ NoMemory)
 Copies fault copy = copy ≡ fault
@@ -19,8 +25,3 @@ Copies fault copy = copy ≡ fault
 abbrev pub Repeats : ScriptFault → Result Command ScriptFault → Type 0
 Repeats fault (Ok command) = ⊥
 Repeats fault (Err copy) = Copies fault copy
-
--- the count of the source's faults doesn't fall, and it rose where the answer is `Failed`
-pub record HasFailed {T : Type 0} (before now : ℕ) (result : Result T ScriptFault) : Type 0 where
-  pub later : before ≤ now
-  pub failed : IsErrOf result Failed → Rose before now

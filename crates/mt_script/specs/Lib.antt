@@ -1,5 +1,5 @@
 pub mod Commands
-pub mod Orders
+pub mod Heads
 pub mod Steps
 pub mod Scripts
 pub mod Reads

@@ -15,16 +15,16 @@ pub record Script : Type 0 where
 abbrev pub with_command : Command → Script → Script
 with_command command script = record { commands = command ∷ script.commands; ending = script.ending }
 
--- a script that begins with this command, or is over with it
-abbrev pub begun : Command → Script → Script
-begun End script = record { commands = []; ending = None }
-begun command script = with_command command script
+-- a script from this command on: `end` ends it, another command goes before the rest
+abbrev pub script_with : Command → Script → Script
+script_with End script = record { commands = []; ending = None }
+script_with command script = with_command command script
 
 -- the script of the bytes, in at most so many steps
 abbrev pub script_within : ℕ → ℕ → List ℕ → Script
 script_within zero n bytes = record { commands = []; ending = Some (Cut (n + 1)) }
 script_within (suc fuel) n bytes = elim (next_of n bytes) [
-  | Found command rest ↦ begun command (script_within fuel (n + 1) rest)
+  | Found command rest ↦ script_with command (script_within fuel (n + 1) rest)
   | Stopped fault ↦ record { commands = []; ending = Some fault }
 ]
 

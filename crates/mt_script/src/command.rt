@@ -9,7 +9,7 @@ use std::alloc::{AllocError, Global};
 /// What a script asks for.
 #[derive(Debug, Drop)]
 pub enum Command {
-    /// The file of this path, which isn't the root, has these bytes from now on, at most `MOST_PUT_BYTES`.
+    /// The file of this path, which isn't the root, has these bytes from now on, at most `MAX_SOURCE_BYTES`.
     Put(Path, Bytes),
     /// There is no file of this path, which isn't the root, from now on.
     Del(Path),
@@ -21,7 +21,7 @@ pub enum Command {
     End,
 }
 
-/// Puts the line of a `put`, without its line feed, behind the bytes.
+/// Adds the line of a `put`, without its line feed, to the text.
 fn push_put_line(
     alloc: Global,
     text: &mut Bytes,
@@ -37,7 +37,7 @@ fn push_put_line(
     text.extend(digits.as_bytes())
 }
 
-/// The one spelling of a command. Refused only for want of memory.
+/// The one spelling of a command. Refused only where memory runs out.
 pub fn write_command(alloc: Global, command: &Command) -> Result<Bytes, AllocError>
     requires { IsWritable command.now }
     ensures exact { IfOk result (λ text. text ≡ command_text command.now) }

@@ -2,9 +2,9 @@
 ghost use Rattle.std.specs.Prelude.{◌≡◌, IfOk, OnErr};
 ghost use Rattle.mt_script.specs.Faults.{HasPath};
 
-use mt_io::Failed;
+use mt_io::{Failed, Trouble};
 use mt_path::Path;
-use std::alloc::{AllocError, Global};
+use std::alloc::AllocError;
 use thiserror::Error;
 
 /// Why a script gave no command. Commands are numbered from 1.
@@ -22,7 +22,7 @@ pub enum ScriptFault {
         /// The number of the command.
         command: u32,
     },
-    /// A `put` has more than `MOST_PUT_BYTES` bytes.
+    /// A `put` has more than `MAX_SOURCE_BYTES` bytes.
     #[error("{path} is to have {size} bytes")]
     FileTooLarge {
         /// The path of the file.
@@ -30,7 +30,7 @@ pub enum ScriptFault {
         /// How many bytes the line of the `put` announces.
         size: u32,
     },
-    /// The line is a command, and there were `MOST_COMMANDS` before it.
+    /// The line is a command, and there were `MAX_COMMANDS` before it.
     #[error("there are too many commands")]
     TooManyCommands,
     /// The source failed, and has counted a fault.
@@ -58,5 +58,41 @@ impl ScriptFault {
             ScriptFault::Failed => ScriptFault::Failed,
             ScriptFault::NoMemory => ScriptFault::NoMemory,
         })
+    }
+}
+
+impl From<Failed> for ScriptFault {
+    ghost use Rattle.std.specs.Prelude.{◌≡◌};
+    ghost use Rattle.mt_script.specs.declared.fault.ScriptFault.TheVariants.{Failed};
+
+    ghost from_gives = { λ _ fault. fault ≡ Failed };
+
+    fn from(_: Failed) -> ScriptFault {
+        ScriptFault::Failed
+    }
+}
+
+impl From<AllocError> for ScriptFault {
+    ghost use Rattle.std.specs.Prelude.{◌≡◌};
+    ghost use Rattle.mt_script.specs.declared.fault.ScriptFault.TheVariants.{NoMemory};
+
+    ghost from_gives = { λ _ fault. fault ≡ NoMemory };
+
+    fn from(_: AllocError) -> ScriptFault {
+        ScriptFault::NoMemory
+    }
+}
+
+impl From<Trouble> for ScriptFault {
+    ghost use Rattle.std.specs.Prelude.{◌≡◌};
+    ghost use Rattle.mt_script.specs.Faults.{trouble_fault};
+
+    ghost from_gives = { λ trouble fault. fault ≡ trouble_fault trouble };
+
+    fn from(trouble: Trouble) -> ScriptFault {
+        match trouble {
+            Trouble::Failed => ScriptFault::Failed,
+            Trouble::NoMemory => ScriptFault::NoMemory,
+        }
     }
 }

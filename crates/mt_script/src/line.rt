@@ -1,22 +1,22 @@
-//! The line at the front of a script.
-ghost use Rattle.std.specs.Prelude.{◌≡◌, ◌==◌, Some, Ok, IfOk, OnErr};
+//! The line at the start of a script.
+ghost use Rattle.std.specs.Prelude.{◌≡◌, ◌==◌, ◌⊎◌, Ok, IfOk, IsErr, OnErr};
 ghost use Rattle.std.specs.List.{position};
-ghost use Rattle.mt_io.specs.Causes.{HasOneCause};
+ghost use Rattle.mt_io.specs.Seen.{Tells};
 ghost use Rattle.mt_io.specs.Told.{Reading};
 ghost use Rattle.mt_script.specs.Commands.{line_feed};
-ghost use Rattle.mt_script.specs.Reads.{Holds, IsSpent};
+ghost use Rattle.mt_script.specs.Reads.{Advances, Holds, IsSpent};
 ghost use Rattle.mt_script.specs.Steps.{line_end};
 
-use crate::held::Held;
+use crate::read_buffer::ReadBuffer;
 use mt_io::{Failed, Source};
 
 /// The most bytes of a line, without its line feed.
-pub const MOST_LINE_BYTES: usize = 1100;
+pub const MAX_LINE_BYTES: usize = 1100;
 
-/// How the line at the front of some bytes ends.
+/// How the line at the start of some bytes ends.
 #[derive(Clone, Copy, Debug)]
 pub(crate) enum LineEnd {
-    /// A line feed stands behind so many bytes.
+    /// A line feed follows so many bytes.
     Whole(usize),
     /// There are more bytes than a line has, and no line feed in time.
     TooLong,
@@ -31,20 +31,20 @@ fn line_feed_in(bytes: &[u8]) -> Option<usize>
     bytes.iter().position(|byte| *byte == b'\n')
 }
 
-/// How the line at the front of these bytes ends.
+/// How the line at the start of these bytes ends.
 fn end_of_line(bytes: &[u8]) -> LineEnd
     ensures { result ≡ line_end bytes.now }
 {
     match line_feed_in(bytes) {
         Some(len) => {
-            if len > MOST_LINE_BYTES {
+            if len > MAX_LINE_BYTES {
                 LineEnd::TooLong
             } else {
                 LineEnd::Whole(len)
             }
         }
         None => {
-            if bytes.len() > MOST_LINE_BYTES {
+            if bytes.len() > MAX_LINE_BYTES {
                 LineEnd::TooLong
             } else {
                 LineEnd::Unfinished
@@ -53,22 +53,27 @@ fn end_of_line(bytes: &[u8]) -> LineEnd
     }
 }
 
-/// Reads until the line at the front has come to its end, whatever that is, or the source has.
-pub(crate) fn hold_line<S: Source>(held: &mut Held, source: &mut S) -> Result<LineEnd, Failed>
-    ensures end { IfOk result (λ end. end ≡ line_end held.new) }
-    ensures holds { (r : Reading) → S.told source.old ≡ Some r → Holds r (S.told source.new) held.old held.new }
-    ensures spent { (r : Reading) → S.told source.old ≡ Some r → result ≡ Ok LineEnd.Unfinished → IsSpent (S.told source.new) }
-    ensures err { OnErr result (line_end held.new ≡ LineEnd.Unfinished) }
-    ensures cause { HasOneCause (S.count source.old) (S.count source.new) result }
-    ensures apart { S.beside source.new ≡ S.beside source.old }
+/// Reads until the line at the start has come to its end, whatever that is, or the source has.
+pub(crate) fn hold_line<S: Source>(
+    buffer: &mut ReadBuffer,
+    source: &mut S,
+) -> Result<LineEnd, Failed>
+    ensures end { IfOk result (λ end. end ≡ line_end buffer.new) }
+    ensures err { OnErr result (line_end buffer.new ≡ LineEnd.Unfinished) }
+    ensures waits { ((source.new ≡ source.old) × (buffer.new ≡ buffer.old)) ⊎ (line_end buffer.old ≡ LineEnd.Unfinished) }
+    ensures source { Advances (S.seen source.old) (S.seen source.new) (IsErr result) }
+
+    // Where the source tells its reading.
+    ensures holds { (r : Reading) → Tells (S.seen source.old) r → Holds r (S.seen source.new).told buffer.old buffer.new }
+    ensures spent { (r : Reading) → Tells (S.seen source.old) r → result ≡ Ok LineEnd.Unfinished → IsSpent (S.seen source.new).told }
 {
-    let mut end = end_of_line(held.as_slice());
+    let mut end = end_of_line(buffer.as_slice());
     while matches!(end, LineEnd::Unfinished) {
-        let count = held.refill(source)?;
+        let count = buffer.refill(source)?;
         if count == 0 {
             return Ok(LineEnd::Unfinished);
         }
-        end = end_of_line(held.as_slice());
+        end = end_of_line(buffer.as_slice());
     }
     Ok(end)
 }

@@ -1,32 +1,33 @@
 //! The commands of a script, read from a source one by one.
-ghost use Rattle.std.specs.Prelude.{◌≡◌, ◌<◌, ◌≤◌, ◌+◌, ◌++◌, ℕ, List, [], Some, None, Ok, Err, IfOk, IfErr, IsErrOf, OnErr, OnOk, IfSome, is_ok, ◌⊎◌, if◌then◌else◌};
+ghost use Rattle.std.specs.Prelude.{◌≡◌, ◌<◌, ◌≤◌, ◌+◌, ◌++◌, ◌⊎◌, [], Some, None, IfOk, IfErr, IfSome, IsErrOf, OnOk, is_ok, if◌then◌else◌};
 ghost use Rattle.std.specs.Result.{result_err};
-ghost use Rattle.mt_io.specs.Causes.{Rose};
+ghost use Rattle.mt_io.specs.Seen.{Tells};
 ghost use Rattle.mt_io.specs.Told.{Reading};
+ghost use Rattle.mt_tokens.specs.Sources.{max_source_bytes};
 ghost use Rattle.mt_script.specs.Commands.{IsCommand};
-ghost use Rattle.mt_script.specs.Faults.{Copies, HasFailed, Repeats};
-ghost use Rattle.mt_script.specs.Reads.{Finds, Interrupted, IsOf, Ordered, Progress, ReadOn, IsOrder};
-ghost use Rattle.mt_script.specs.Steps.{limited_step, next_of, put_step};
+ghost use Rattle.mt_script.specs.Faults.{Copies, Repeats};
+ghost use Rattle.mt_script.specs.Reads.{Advances, Finds, FindsHead, Interrupted, IsHead, IsOf, Progress};
+ghost use Rattle.mt_script.specs.Steps.{Stopped, limited_step, max_commands, next_of, put_step};
 
 use crate::command::Command;
+use crate::command_head::{CommandHead, head_in};
 use crate::fault::ScriptFault;
-use crate::held::Held;
 use crate::line::{LineEnd, hold_line};
-use crate::order::{MOST_PUT_BYTES, Order, order_in};
-use mt_io::{Source, Trouble};
+use crate::read_buffer::ReadBuffer;
+use mt_io::Source;
 use mt_path::Path;
-use mt_tokens::Bytes;
+use mt_tokens::{Bytes, MAX_SOURCE_BYTES};
 use std::alloc::{AllocError, Global};
 use std::marker::Model;
 
 /// The most commands of a script.
-pub const MOST_COMMANDS: u32 = 1_048_576;
+pub const MAX_COMMANDS: u32 = 1_048_576;
 
 /// Reads the commands of a script one by one. Each command is given before more is read than it takes to know it.
 #[derive(Debug, Drop)]
 pub struct ScriptReader {
     alloc: Global,
-    held: Held,
+    buffer: ReadBuffer,
     count: u32,
     fault: Option<ScriptFault>,
 }
@@ -34,200 +35,193 @@ pub struct ScriptReader {
 impl Model for ScriptReader {
     ghost use Rattle.std.specs.Prelude.{◌≤◌};
     ghost use Rattle.mt_script.specs.Reads.{Progress};
+    ghost use Rattle.mt_script.specs.Steps.{max_commands};
 
     ghost Value = { Progress };
 
-    ghost view = { λ r. record { held = r.held; count = r.count; fault = r.fault } };
+    ghost view = { λ r. record { held = r.buffer; count = r.count; fault = r.fault } };
 
-    ghost invariant = { λ r. r.count ≤ 1048576 };
+    ghost invariant = { λ r. r.count ≤ max_commands };
 }
 
-/// Reads the line of the command of this number, and what it asks for.
-fn read_order<S: Source>(
+/// Reads the line of the command after so many, and what it says.
+fn read_head<S: Source>(
     alloc: Global,
     count: u32,
-    held: &mut Held,
+    buffer: &mut ReadBuffer,
     source: &mut S,
-) -> Result<Order, ScriptFault>
-    requires { count ≤ 1048576 }
-    ensures order { IfOk result IsOrder }
-    ensures ordered { (r : Reading) → S.told source.old ≡ Some r → IfOk result (Ordered count r (S.told source.new) held.old held.new) }
-    ensures refused { (r : Reading) → S.told source.old ≡ Some r → IfErr result (λ fault. IsOf fault (next_of count (held.old ++ r.left))) }
-    ensures interrupted { (r : Reading) → S.told source.old ≡ Some r → IsErrOf result ScriptFault.Failed → Interrupted (next_of count) (count + 1) r (S.told source.new) held.old }
-    ensures read { (r : Reading) → S.told source.old ≡ Some r → ReadOn r (S.told source.new) }
-    ensures cause { HasFailed (S.count source.old) (S.count source.new) result }
-    ensures apart { S.beside source.new ≡ S.beside source.old }
+) -> Result<CommandHead, ScriptFault>
+    requires { count ≤ max_commands }
+    ensures head { IfOk result IsHead }
+    ensures waits { ((source.new ≡ source.old) × IfOk result (λ head. next_of count buffer.old ≡ limited_step count head buffer.new)) ⊎ (next_of count buffer.old ≡ Stopped (ScriptFault.Cut (count + 1))) }
+    ensures source { Advances (S.seen source.old) (S.seen source.new) (IsErrOf result ScriptFault.Failed) }
+
+    // Where the source tells its reading.
+    ensures found { (r : Reading) → Tells (S.seen source.old) r → IfOk result (FindsHead count r (S.seen source.new).told buffer.old buffer.new) }
+    ensures refused { (r : Reading) → Tells (S.seen source.old) r → IfErr result (λ fault. IsOf fault (next_of count (buffer.old ++ r.left))) }
+    ensures interrupted { (r : Reading) → Tells (S.seen source.old) r → IsErrOf result ScriptFault.Failed → Interrupted (next_of count) (count + 1) r (S.seen source.new).told buffer.old }
 {
-    let len = match hold_line(held, source) {
-        Ok(LineEnd::Whole(len)) => len,
-        Ok(LineEnd::TooLong) => return Err(ScriptFault::Bad { command: count + 1 }),
-        Ok(LineEnd::Unfinished) => return Err(ScriptFault::Cut { command: count + 1 }),
-        Err(_) => return Err(ScriptFault::Failed),
+    let len = match hold_line(buffer, source)? {
+        LineEnd::Whole(len) => len,
+        LineEnd::TooLong => return Err(ScriptFault::Bad { command: count + 1 }),
+        LineEnd::Unfinished => return Err(ScriptFault::Cut { command: count + 1 }),
     };
-    let (line, _) = held.as_slice().split_at(len);
-    match order_in(alloc, line) {
-        Ok(Some(order)) => {
-            held.skip(len + 1);
-            Ok(order)
-        }
-        Ok(None) => Err(ScriptFault::Bad { command: count + 1 }),
-        Err(_) => Err(ScriptFault::NoMemory),
-    }
+    let (line, _) = buffer.as_slice().split_at(len);
+    let Some(head) = head_in(alloc, line)? else {
+        return Err(ScriptFault::Bad { command: count + 1 });
+    };
+    buffer.skip(len + 1);
+    Ok(head)
 }
 
-/// Reads the bytes of a `put` and the line feed behind them.
+/// Reads the bytes of a `put` and the line feed after them.
 fn read_put<S: Source>(
     alloc: Global,
     count: u32,
-    held: &mut Held,
+    buffer: &mut ReadBuffer,
     source: &mut S,
     path: Path,
     size: u32,
 ) -> Result<Command, ScriptFault>
-    requires count { count ≤ 1048576 }
-    requires size { size ≤ 16777216 }
-    requires path { IsOrder (Order.Put path size) }
+    requires count { count ≤ max_commands }
+    requires size { size ≤ max_source_bytes }
+    requires path { IsHead (CommandHead.Put path size) }
     ensures command { IfOk result IsCommand }
-    ensures found { (r : Reading) → S.told source.old ≡ Some r → IfOk result (Finds (put_step count path size) r (S.told source.new) held.old held.new) }
-    ensures refused { (r : Reading) → S.told source.old ≡ Some r → IfErr result (λ fault. IsOf fault (put_step count path size (held.old ++ r.left))) }
-    ensures interrupted { (r : Reading) → S.told source.old ≡ Some r → IsErrOf result ScriptFault.Failed → Interrupted (put_step count path size) (count + 1) r (S.told source.new) held.old }
-    ensures read { (r : Reading) → S.told source.old ≡ Some r → ReadOn r (S.told source.new) }
-    ensures cause { HasFailed (S.count source.old) (S.count source.new) result }
-    ensures apart { S.beside source.new ≡ S.beside source.old }
+    ensures waits { (source.new ≡ source.old) ⊎ (put_step count path size buffer.old ≡ Stopped (ScriptFault.Cut (count + 1))) }
+    ensures source { Advances (S.seen source.old) (S.seen source.new) (IsErrOf result ScriptFault.Failed) }
+
+    // Where the source tells its reading.
+    ensures found { (r : Reading) → Tells (S.seen source.old) r → IfOk result (Finds (put_step count path size) r (S.seen source.new).told buffer.old buffer.new) }
+    ensures refused { (r : Reading) → Tells (S.seen source.old) r → IfErr result (λ fault. IsOf fault (put_step count path size (buffer.old ++ r.left))) }
+    ensures interrupted { (r : Reading) → Tells (S.seen source.old) r → IsErrOf result ScriptFault.Failed → Interrupted (put_step count path size) (count + 1) r (S.seen source.new).told buffer.old }
 {
-    match held.take_bytes(alloc, source, size as usize + 1) {
-        Ok(Some(mut bytes)) => {
-            if bytes[size as usize] != b'\n' {
-                return Err(ScriptFault::Bad { command: count + 1 });
-            }
-            bytes.truncate(size as usize);
-            Ok(Command::Put(path, Bytes::from_vec(bytes)))
-        }
-        Ok(None) => Err(ScriptFault::Cut { command: count + 1 }),
-        Err(Trouble::Failed) => Err(ScriptFault::Failed),
-        Err(Trouble::NoMemory) => Err(ScriptFault::NoMemory),
+    let Some(mut bytes) = buffer.take_bytes(alloc, source, size as usize + 1)? else {
+        return Err(ScriptFault::Cut { command: count + 1 });
+    };
+    if bytes[size as usize] != b'\n' {
+        return Err(ScriptFault::Bad { command: count + 1 });
     }
+    bytes.truncate(size as usize);
+    Ok(Command::Put(path, Bytes::from_vec(bytes)))
 }
 
-/// Reads what an order wants behind its line, where there is room for a command.
+/// Reads what follows the line of a command, where there is room for the command.
 fn carry_out<S: Source>(
     alloc: Global,
     count: u32,
-    held: &mut Held,
+    buffer: &mut ReadBuffer,
     source: &mut S,
-    order: Order,
+    head: CommandHead,
 ) -> Result<Command, ScriptFault>
-    requires count { count ≤ 1048576 }
-    requires order { IsOrder order }
+    requires count { count ≤ max_commands }
+    requires head { IsHead head }
     ensures command { IfOk result IsCommand }
-    ensures room { OnOk result (count < 1048576) }
-    ensures found { (r : Reading) → S.told source.old ≡ Some r → IfOk result (Finds (limited_step count order) r (S.told source.new) held.old held.new) }
-    ensures refused { (r : Reading) → S.told source.old ≡ Some r → IfErr result (λ fault. IsOf fault (limited_step count order (held.old ++ r.left))) }
-    ensures interrupted { (r : Reading) → S.told source.old ≡ Some r → IsErrOf result ScriptFault.Failed → Interrupted (limited_step count order) (count + 1) r (S.told source.new) held.old }
-    ensures read { (r : Reading) → S.told source.old ≡ Some r → ReadOn r (S.told source.new) }
-    ensures cause { HasFailed (S.count source.old) (S.count source.new) result }
-    ensures apart { S.beside source.new ≡ S.beside source.old }
+    ensures room { OnOk result (count < max_commands) }
+    ensures waits { (source.new ≡ source.old) ⊎ (limited_step count head buffer.old ≡ Stopped (ScriptFault.Cut (count + 1))) }
+    ensures source { Advances (S.seen source.old) (S.seen source.new) (IsErrOf result ScriptFault.Failed) }
+
+    // Where the source tells its reading.
+    ensures found { (r : Reading) → Tells (S.seen source.old) r → IfOk result (Finds (limited_step count head) r (S.seen source.new).told buffer.old buffer.new) }
+    ensures refused { (r : Reading) → Tells (S.seen source.old) r → IfErr result (λ fault. IsOf fault (limited_step count head (buffer.old ++ r.left))) }
+    ensures interrupted { (r : Reading) → Tells (S.seen source.old) r → IsErrOf result ScriptFault.Failed → Interrupted (limited_step count head) (count + 1) r (S.seen source.new).told buffer.old }
 {
-    if count >= MOST_COMMANDS {
+    if count >= MAX_COMMANDS {
         return Err(ScriptFault::TooManyCommands);
     }
-    match order {
-        Order::Whole(command) => Ok(command),
-        Order::Put(path, size) => {
-            if size as usize > MOST_PUT_BYTES {
+    match head {
+        CommandHead::Whole(command) => Ok(command),
+        CommandHead::Put(path, size) => {
+            if size as usize > MAX_SOURCE_BYTES {
                 return Err(ScriptFault::FileTooLarge { path, size });
             }
-            read_put(alloc, count, held, source, path, size)
+            read_put(alloc, count, buffer, source, path, size)
         }
     }
 }
 
-/// Reads the next command, once `count` commands were read.
+/// Reads the command after so many.
 fn read_command<S: Source>(
     alloc: Global,
     count: u32,
-    held: &mut Held,
+    buffer: &mut ReadBuffer,
     source: &mut S,
 ) -> Result<Command, ScriptFault>
-    requires { count ≤ 1048576 }
+    requires { count ≤ max_commands }
     ensures command { IfOk result IsCommand }
-    ensures room { OnOk result (count < 1048576) }
-    ensures found { (r : Reading) → S.told source.old ≡ Some r → IfOk result (Finds (next_of count) r (S.told source.new) held.old held.new) }
-    ensures refused { (r : Reading) → S.told source.old ≡ Some r → IfErr result (λ fault. IsOf fault (next_of count (held.old ++ r.left))) }
-    ensures interrupted { (r : Reading) → S.told source.old ≡ Some r → IsErrOf result ScriptFault.Failed → Interrupted (next_of count) (count + 1) r (S.told source.new) held.old }
-    ensures read { (r : Reading) → S.told source.old ≡ Some r → ReadOn r (S.told source.new) }
-    ensures cause { HasFailed (S.count source.old) (S.count source.new) result }
-    ensures apart { S.beside source.new ≡ S.beside source.old }
+    ensures room { OnOk result (count < max_commands) }
+    ensures waits { (source.new ≡ source.old) ⊎ (next_of count buffer.old ≡ Stopped (ScriptFault.Cut (count + 1))) }
+    ensures source { Advances (S.seen source.old) (S.seen source.new) (IsErrOf result ScriptFault.Failed) }
+
+    // Where the source tells its reading.
+    ensures found { (r : Reading) → Tells (S.seen source.old) r → IfOk result (Finds (next_of count) r (S.seen source.new).told buffer.old buffer.new) }
+    ensures refused { (r : Reading) → Tells (S.seen source.old) r → IfErr result (λ fault. IsOf fault (next_of count (buffer.old ++ r.left))) }
+    ensures interrupted { (r : Reading) → Tells (S.seen source.old) r → IsErrOf result ScriptFault.Failed → Interrupted (next_of count) (count + 1) r (S.seen source.new).told buffer.old }
 {
-    let order = match read_order(alloc, count, held, source) {
-        Ok(order) => order,
-        Err(fault) => return Err(fault),
-    };
-    carry_out(alloc, count, held, source, order)
+    match read_head(alloc, count, buffer, source) {
+        Ok(head) => carry_out(alloc, count, buffer, source, head),
+        Err(fault) => Err(fault),
+    }
 }
 
 impl ScriptReader {
-    /// A reader that has given no command and holds no bytes. Refused only for want of memory.
+    /// A reader that has given no command and holds no bytes. Refused only where memory runs out.
     pub fn new(alloc: Global) -> Result<ScriptReader, AllocError>
         ensures empty { IfOk result (λ reader. reader ≡ record { held = []; count = 0; fault = None }) }
     {
         Ok(ScriptReader {
             alloc,
-            held: Held::new(alloc)?,
+            buffer: ReadBuffer::new(alloc)?,
             count: 0,
             fault: None,
         })
     }
 
     /// The next command of `source`, from which this reader alone reads. After a fault each call answers that fault, and
-    /// nothing is read; only a fault that has a path is followed by `NoMemory` where there is none for a copy of it.
+    /// reads nothing. Where memory runs out for a copy of it, that call and all later ones answer `NoMemory`.
     pub fn next<S: Source>(&mut self, source: &mut S) -> Result<Command, ScriptFault>
         ensures command { IfOk result IsCommand }
         ensures count { self.new.count ≡ (if is_ok result then self.old.count + 1 else self.old.count) }
 
+        // It reads only where what is held is cut within a command.
+        ensures waits { (source.new ≡ source.old) ⊎ (next_of self.old.count self.old.held ≡ Stopped (ScriptFault.Cut (self.old.count + 1))) }
+        ensures source { Advances (S.seen source.old) (S.seen source.new) ((self.old.fault ≡ None) × IsErrOf result ScriptFault.Failed) }
+
         // Where the source tells its reading.
-        ensures found { (r : Reading) → S.told source.old ≡ Some r → IfOk result (Finds (next_of self.old.count) r (S.told source.new) self.old.held self.new.held) }
-        ensures refused { (r : Reading) → S.told source.old ≡ Some r → self.old.fault ≡ None → IfErr result (λ fault. IsOf fault (next_of self.old.count (self.old.held ++ r.left))) }
-        ensures interrupted { (r : Reading) → S.told source.old ≡ Some r → self.old.fault ≡ None → IsErrOf result ScriptFault.Failed → Interrupted (next_of self.old.count) (self.old.count + 1) r (S.told source.new) self.old.held }
-        ensures read { (r : Reading) → S.told source.old ≡ Some r → ReadOn r (S.told source.new) }
+        ensures found { (r : Reading) → Tells (S.seen source.old) r → IfOk result (Finds (next_of self.old.count) r (S.seen source.new).told self.old.held self.new.held) }
+        ensures refused { (r : Reading) → Tells (S.seen source.old) r → self.old.fault ≡ None → IfErr result (λ fault. IsOf fault (next_of self.old.count (self.old.held ++ r.left))) }
+        ensures interrupted { (r : Reading) → Tells (S.seen source.old) r → self.old.fault ≡ None → IsErrOf result ScriptFault.Failed → Interrupted (next_of self.old.count) (self.old.count + 1) r (S.seen source.new).told self.old.held }
 
-        // A fault stays.
-        ensures kept { self.old.fault ≡ None → self.new.fault ≡ result_err result }
+        // The fault that a call answers stays.
+        ensures kept { self.new.fault ≡ result_err result }
         ensures again { IfSome self.old.fault (λ fault. Repeats fault result) }
-        ensures same { IfSome self.old.fault (λ _. (self.new ≡ self.old) × (source.new ≡ source.old)) }
-
-        ensures later { S.count source.old ≤ S.count source.new }
-        ensures failed { IsErrOf result ScriptFault.Failed → (self.old.fault ≡ Some ScriptFault.Failed) ⊎ Rose (S.count source.old) (S.count source.new) }
-        ensures apart { S.beside source.new ≡ S.beside source.old }
+        ensures same { IfSome self.old.fault (λ _. (self.new.held ≡ self.old.held) × (source.new ≡ source.old)) }
     {
-        if let Some(fault) = &self.fault {
-            return Err(answered_again(fault));
+        if let Some(fault) = self.fault.take() {
+            return Err(self.stop(fault));
         }
-        match read_command(self.alloc, self.count, &mut self.held, source) {
+        match read_command(self.alloc, self.count, &mut self.buffer, source) {
             Ok(command) => {
                 self.count += 1;
                 Ok(command)
             }
-            Err(fault) => {
-                let (fault, kept) = twice(fault);
-                self.fault = Some(kept);
-                Err(fault)
-            }
+            Err(fault) => Err(self.stop(fault)),
         }
     }
-}
 
-/// The fault that was answered before, or want of memory where there is none for its copy.
-fn answered_again(fault: &ScriptFault) -> ScriptFault
-    ensures { Copies fault.now result }
-{
-    match fault.copied() {
-        Ok(fault) => fault,
-        Err(_) => ScriptFault::NoMemory,
+    /// Keeps a fault for later calls, and gives it: out of memory, where there is none for its copy.
+    fn stop(&mut self, fault: ScriptFault) -> ScriptFault
+        ensures copies { Copies fault result }
+        ensures kept { self.new.fault ≡ Some result }
+        ensures held { self.new.held ≡ self.old.held }
+        ensures count { self.new.count ≡ self.old.count }
+    {
+        let (fault, kept) = twice(fault);
+        self.fault = Some(kept);
+        fault
     }
 }
 
-/// A fault two times, or want of memory two times where there is none for its copy.
+/// A fault two times, or out of memory two times where there is none for its copy.
 fn twice(fault: ScriptFault) -> (ScriptFault, ScriptFault)
     ensures same { result.0 ≡ result.1 }
     ensures copies { Copies fault result.0 }

@@ -8,7 +8,7 @@ use Rattle.std.proofs.lemmas.Bool.Decides.{nat_tests, Decides-eqb}
 use Rattle.std.proofs.lemmas.Slice.Eq.{slice_eq-Decides}
 use Rattle.mt_tokens.specs.Classes.{is_digit, is_part}
 use Rattle.mt_tokens.specs.Comments.{begins_line_end, line_len, block_len, begins_comment}
-use Rattle.mt_tokens.specs.Numbers.{begins_base, begins_number, is_digit_part, fraction_len, sign_len, exponent_len, and_behind, number_len}
+use Rattle.mt_tokens.specs.Numbers.{begins_base, begins_number, is_digit_part, fraction_len, sign_len, exponent_len, and_after, number_len}
 use Rattle.mt_tokens.specs.Strings.{closing_len, escape_len}
 
 -- a text is as long as what it begins with
@@ -74,9 +74,9 @@ comment_some place b rest h =
     let l : line_len (b ∷ rest) ≡ line_len rest + 1 = ap (λ t. cond t 0 (line_len rest + 1)) e in
     omega arith
 
--- two parts are within the text, one behind the other
-pub and_behind_within : (p q : List ℕ → ℕ) → ((r : List ℕ) → p r ≤ length r) → ((r : List ℕ) → q r ≤ length r) → (r : List ℕ) → and_behind p q r ≤ length r
-and_behind_within p q f g r = omega (arith, f r, g (drop (p r) r), length-drop (p r) r)
+-- two parts are within the text, one after the other
+pub and_after_within : (p q : List ℕ → ℕ) → ((r : List ℕ) → p r ≤ length r) → ((r : List ℕ) → q r ≤ length r) → (r : List ℕ) → and_after p q r ≤ length r
+and_after_within p q f g r = omega (arith, f r, g (drop (p r) r), length-drop (p r) r)
 
 pub fraction_within : (r : List ℕ) → fraction_len r ≤ length r
 fraction_within [] = omega arith
@@ -111,7 +111,7 @@ or_second false false u n h g = absurd (cc)
 -- a number of base ten has a byte
 pub decimal_some :
     (b : ℕ) (rest : List ℕ) (tail : List ℕ → ℕ) (digit : Bool) → is_digit_part b ≡ digit → begins_number (b ∷ rest) ≡ true →
-    0 < and_behind (prefix_len is_digit_part) (and_behind fraction_len tail) (b ∷ rest)
+    0 < and_after (prefix_len is_digit_part) (and_after fraction_len tail) (b ∷ rest)
 decimal_some b rest tail true e h =
     let p : prefix_len is_digit_part (b ∷ rest) ≡ 1 + prefix_len is_digit_part rest = ap (λ t. cond t (1 + prefix_len is_digit_part rest) 0) e in
     omega (arith, p)
@@ -124,13 +124,13 @@ decimal_some b rest tail false e h =
 pub number_within : (b : ℕ) (rest : List ℕ) → begins_number (b ∷ rest) ≡ true → (0 < number_len (b ∷ rest)) × (number_len (b ∷ rest) ≤ length (b ∷ rest))
 number_within b rest h =
     let part = prefix_len is_part in
-    pick_within (begins_base (b ∷ rest)) (part (drop 2 (b ∷ rest)) + 2) (and_behind (prefix_len is_digit_part) (and_behind fraction_len (and_behind exponent_len part)) (b ∷ rest)) (length (b ∷ rest))
+    pick_within (begins_base (b ∷ rest)) (part (drop 2 (b ∷ rest)) + 2) (and_after (prefix_len is_digit_part) (and_after fraction_len (and_after exponent_len part)) (b ∷ rest)) (length (b ∷ rest))
     (λ t.
     let l = base_within b rest t in
     (omega arith, omega (arith, l, prefix_len-le-length is_part (drop 2 (b ∷ rest)), length-drop 2 (b ∷ rest)))) (
-      decimal_some b rest (and_behind exponent_len part) (is_digit_part b) refl h,
-      and_behind_within (prefix_len is_digit_part) (and_behind fraction_len (and_behind exponent_len part)) (prefix_len-le-length is_digit_part)
-          (and_behind_within fraction_len (and_behind exponent_len part) fraction_within (and_behind_within exponent_len part exponent_within (prefix_len-le-length is_part)))
+      decimal_some b rest (and_after exponent_len part) (is_digit_part b) refl h,
+      and_after_within (prefix_len is_digit_part) (and_after fraction_len (and_after exponent_len part)) (prefix_len-le-length is_digit_part)
+          (and_after_within fraction_len (and_after exponent_len part) fraction_within (and_after_within exponent_len part exponent_within (prefix_len-le-length is_part)))
           (b ∷ rest),
     )
 

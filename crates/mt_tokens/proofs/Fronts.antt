@@ -1,4 +1,4 @@
--- The token at the front is not empty, and within the text.
+-- The token that a text begins with is not empty, and within the text.
 use Rattle.std.proofs.Common.{Bool, arith, ◌≡◌, ◌==◌, ◌<◌, ◌≤◌, ◌+◌, ◌-◌, true, false, nat_lt, cond, ℕ, List, [], ◌∷◌, length, ap, refl, take, drop, Result, Ok, Err, Option, Some, None, eqb, sym}
 use Rattle.std.specs.List.{prefix_len, list_all, starts_with}
 use Rattle.std.specs.Result.{IfOk}
@@ -27,7 +27,7 @@ run_within p b rest h =
     let e : prefix_len p (b ∷ rest) ≡ 1 + prefix_len p rest = ap (λ x. cond x (1 + prefix_len p rest) 0) h in
     (omega (arith, e), prefix_len-le-length p (b ∷ rest))
 
--- what a name begins with may stand in it
+-- what a name begins with may be a part of it
 pub start_is_part : (b : ℕ) → is_start b ≡ true → is_part b ≡ true
 start_is_part b h = rw h refl
 
@@ -55,7 +55,7 @@ chosen_length false false false true one n f t w o = w refl
 chosen_length false false false false true n f t w o = o
 chosen_length false false false false false n f t w o = omega arith
 
--- the punctuator at the front is within the text
+-- the punctuator that a text begins with is within it
 pub punct_within : (b : ℕ) (rest : List ℕ) → punct_len (b ∷ rest) ≤ length (b ∷ rest)
 punct_within b rest =
     let some : 1 ≤ length (b ∷ rest) = omega arith in
@@ -82,10 +82,10 @@ pub found_within : (rest : List ℕ) (kind : TokenKind) (more : ℕ) (x : Option
 found_within rest kind more None e m h = tt
 found_within rest kind more (Some n) e m h = (omega arith, h)
 
--- the bound of a length that is found behind some bytes
-pub found_behind : (x : Option ℕ) (k m n : ℕ) → IfSome x (λ i. i ≤ k) → k + m ≤ n → IfSome x (λ i. i + m ≤ n)
-found_behind None k m n h l = tt
-found_behind (Some i) k m n h l = omega arith
+-- the bound of a length that is found after some bytes
+pub found_after : (x : Option ℕ) (k m n : ℕ) → IfSome x (λ i. i ≤ k) → k + m ≤ n → IfSome x (λ i. i + m ≤ n)
+found_after None k m n h l = tt
+found_after (Some i) k m n h l = omega arith
 
 pub comment_within : (place b : ℕ) (rest : List ℕ) → begins_comment place (b ∷ rest) ≡ true → IsWithin (b ∷ rest) (comment_of place (b ∷ rest))
 comment_within place b rest h =
@@ -94,15 +94,15 @@ comment_within place b rest h =
     (λ t.
     let l = starts_within (b ∷ rest) (47 ∷ 42 ∷ []) t in
     found_within (b ∷ rest) Comment 2 block (UnclosedComment place) (omega arith)
-    (found_behind block (length (drop 2 (b ∷ rest))) 2 (length (b ∷ rest)) (block_within (drop 2 (b ∷ rest))) (omega (arith, l, length-drop 2 (b ∷ rest)))))
+    (found_after block (length (drop 2 (b ∷ rest))) 2 (length (b ∷ rest)) (block_within (drop 2 (b ∷ rest))) (omega (arith, l, length-drop 2 (b ∷ rest)))))
     (comment_some place b rest h, line_within (b ∷ rest))
 
 pub string_within : (place b : ℕ) (rest : List ℕ) → IsWithin (b ∷ rest) (string_of place (b ∷ rest))
 string_within place b rest =
     found_within (b ∷ rest) Str 1 (closing_len b 0 rest) (UnclosedString place) (omega arith)
-    (found_behind (closing_len b 0 rest) (length rest) 1 (length (b ∷ rest)) (closing_within b 0 rest) (omega arith))
+    (found_after (closing_len b 0 rest) (length rest) 1 (length (b ∷ rest)) (closing_within b 0 rest) (omega arith))
 
--- whatever the front token is
+-- whatever the token is
 pub front_within : (place : ℕ) (rest : List ℕ) → IsWithin rest (front_of place rest)
 front_within place [] = tt
 front_within place (b ∷ rest) =
@@ -114,7 +114,7 @@ front_within place (b ∷ rest) =
     (first_kind (b ∷ rest) (nat_lt 0 (punct_len (b ∷ rest))) _ _ (λ h. (ltb-true 0 (punct_len (b ∷ rest)) h, punct_within b rest))
     (first_kind (b ∷ rest) (is_not_yet b) _ _ (λ _. tt) tt))))))
 
--- the token at a place ends behind it, and within the text
+-- the token at a place ends after it, and within the text
 pub front_ends : (place : ℕ) (text : List ℕ) (kind : TokenKind) (n : ℕ) → place ≤ length text → Ok (kind, n) ≡ front_of place (take (length text - place) (drop place text)) → (place < place + n) × (place + n ≤ length text)
 front_ends place text kind n h e =
     let rest = take (length text - place) (drop place text) in

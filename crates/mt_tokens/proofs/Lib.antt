@@ -2,8 +2,8 @@ pub mod Punctuation
 pub mod Fronts
 pub mod Openings
 pub mod Scans
-pub mod Coverings
 pub mod Walks
 pub mod Extents
-pub mod Laws
+pub mod Covers
 pub mod Ascii
+pub mod HasTokens

@@ -1,4 +1,4 @@
--- The punctuator at the front, from the four bytes there.
+-- The punctuator that a text begins with, from its first four bytes.
 use Rattle.std.proofs.Common.{ℕ, ◌&&◌, ◌≡◌, List, [], ◌∷◌, get_or, cond, refl, eqb}
 use Rattle.std.specs.Cmp.Lexicographic.{pointwise}
 use Rattle.mt_tokens.specs.Punctuators.{punct_len, of_four, of_three, of_two, of_one, is_among}

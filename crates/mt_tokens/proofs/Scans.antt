@@ -31,7 +31,7 @@ scan-after (suc most) text found place h =
 abbrev pub Answers : List ℕ → List Token → ℕ → Result (List Token) TokenFault → Type 0
 Answers text found place answer = scan (length text - length found) text found place ≡ answer
 
--- a fault of the front ends the scan
+-- where no token begins the scan ends
 pub answer_at_fault : (text : List ℕ) (found : List Token) (place : ℕ) (answer : Result (List Token) TokenFault) (e : TokenFault) → Answers text found place answer → length found ≤ place → place < length text → Err e ≡ token_at text place → answer ≡ Err e
 answer_at_fault text found place answer e a m h f =
     let s = scan-before (length text - length found) text found place (omega arith) h in
@@ -44,7 +44,7 @@ answer_at_misfit text found place answer t openers a m h e p o b =
     let b' : is_misfit (first_byte text t) (open_in text found) ≡ true = rw (p, sym o) b in
     sym a ∙ s ∙ rw (sym e) (rw b' refl)
 
--- a token goes behind those found
+-- a token goes after those found
 pub answer_at_token : (text : List ℕ) (found : List Token) (place : ℕ) (answer : Result (List Token) TokenFault) (t : Token) (openers : List Opener) → Answers text found place answer → length found ≤ place → place < length text → Ok t ≡ token_at text place → t.start ≡ place → openers ≡ open_in text found → is_misfit (get_or text place 0) openers ≡ false → Answers text (found ++ t ∷ []) t.end answer
 answer_at_token text found place answer t openers a m h e p o b =
     let b' : is_misfit (first_byte text t) (open_in text found) ≡ false = rw (p, sym o) b in

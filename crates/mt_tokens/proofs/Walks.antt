@@ -8,7 +8,7 @@ use Rattle.std.proofs.lemmas.Bool.Decides.{nat_tests}
 use Rattle.mt_tokens.specs.Comments.{begins_line_end, line_len, block_len}
 use Rattle.mt_tokens.specs.Strings.{closing_len, escape_len}
 
--- what stands at a place, as its first byte and the rest
+-- the rest of a text from a place on, as its first byte and those after it
 pub drop_front : (rest : List ℕ) (at : ℕ) → at < length rest → drop at rest ≡ get_or rest at 0 ∷ drop (at + 1) rest
 drop_front rest at h = drop-cons rest at 0 h ∙ ap (λ n. get_or rest at 0 ∷ drop n rest) (sym (add-one at))
 
@@ -29,7 +29,7 @@ pub counted_twice : (x : Option ℕ) (at more : ℕ) → option_map (λ n. n + a
 counted_twice None at more = refl
 counted_twice (Some n) at more = ap Some (omega arith)
 
--- the slice from a place on is what stands there
+-- the slice from a place on is the rest of the text
 pub slice_from : (rest : List ℕ) (at : ℕ) → take (length rest - at) (drop at rest) ≡ drop at rest
 slice_from rest at = take_all (length rest - at) (drop at rest) (omega (arith, length-drop at rest))
 

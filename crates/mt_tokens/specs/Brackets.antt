@@ -1,4 +1,4 @@
--- The brackets that are open behind a list of tokens.
+-- The brackets that are open after a list of tokens.
 use Rattle.std.specs.Prelude.{ℕ, Bool, ◌+◌, ◌-◌, ◌==◌, ◌||◌, not, false, List, [], ◌∷◌, drop, slice_index, Option, Some, None, if◌then◌else◌}
 use Rattle.mt_tokens.specs.declared.token.Token.{Token}
 use Rattle.mt_tokens.specs.declared.brackets.Opener.{Opener}
@@ -35,9 +35,9 @@ abbrev pub is_misfit : ℕ → List Opener → Bool
 is_misfit b [] = is_closer b
 is_misfit b (o ∷ openers) = if is_closer b then not (b == o.closer) else false
 
--- the openers, the innermost first, behind a token that begins with a byte at a place
-abbrev pub behind : ℕ → ℕ → List Opener → List Opener
-behind b place openers =
+-- the openers, the innermost first, after a token that begins with a byte at a place
+abbrev pub openers_after : ℕ → ℕ → List Opener → List Opener
+openers_after b place openers =
     if is_closer b then drop 1 openers else (if is_opener b then record { place = place; closer = closer_of b } ∷ openers else openers)
 
 -- the place of the innermost of the openers

@@ -12,7 +12,7 @@ abbrev pub begins_comment : ℕ → List ℕ → Bool
 begins_comment place rest =
     starts_with nat_eq rest (codes "//") || starts_with nat_eq rest (codes "/*") || (place == 0 && starts_with nat_eq rest (codes "#!"))
 
--- whether a line end is at the front: line feed, carriage return, U+2028 or U+2029
+-- whether the text begins with a line end: line feed, carriage return, U+2028 or U+2029
 abbrev pub begins_line_end : List ℕ → Bool
 begins_line_end rest =
     slice_index rest 0 == 10 || slice_index rest 0 == 13 || (slice_index rest 0 == 226 && slice_index rest 1 == 128 && (slice_index rest 2 == 168 || slice_index rest 2 == 169))
@@ -27,7 +27,7 @@ abbrev pub block_len : List ℕ → Option ℕ
 block_len [] = None
 block_len (b ∷ rest) = if starts_with nat_eq (b ∷ rest) (codes "*/") then Some 2 else option_map (λ n. n + 1) (block_len rest)
 
--- the comment that begins at the place: behind `/*` it goes through the first `*/`, and else to the line's end
+-- the comment that begins at the place: after `/*` it goes through the first `*/`, and else to the line's end
 abbrev pub comment_of : ℕ → List ℕ → Result (TokenKind × ℕ) TokenFault
 comment_of place rest =
     if starts_with nat_eq rest (codes "/*") then option_map_or (λ n. Ok (Comment, n + 2)) (block_len (drop 2 rest)) (Err (UnclosedComment place))

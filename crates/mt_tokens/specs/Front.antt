@@ -1,4 +1,4 @@
--- The token at the front of a text.
+-- The token that a text begins with.
 use Rattle.std.specs.Prelude.{ℕ, List, [], ◌∷◌, nat_lt, if◌then◌else◌, Result, Ok, Err}
 use Rattle.std.specs.List.{prefix_len}
 use Rattle.mt_tokens.specs.Classes.{is_space, is_start, is_part, is_quote, is_not_yet}
@@ -11,7 +11,7 @@ use Rattle.mt_tokens.specs.declared.token.TokenKind.TheVariants.{Space, Ident, N
 use Rattle.mt_tokens.specs.declared.token.TokenFault.{TokenFault}
 use Rattle.mt_tokens.specs.declared.token.TokenFault.TheVariants.{BadByte, NotYet}
 
--- the kind and the length of the token at the front of what stands at the place: the first kind that fits
+-- the kind and the length of the token that the rest of a text begins with, at a place: the first kind that fits
 abbrev pub front_of : ℕ → List ℕ → Result (TokenKind × ℕ) TokenFault
 front_of place [] = Err (BadByte place)
 front_of place (b ∷ rest) =

@@ -8,3 +8,4 @@ pub mod Brackets
 pub mod Tokens
 pub mod Deps
 pub mod Transform
+pub mod Sources

@@ -7,12 +7,12 @@ use Rattle.mt_tokens.specs.declared.token.TokenKind.TheVariants.{Str}
 use Rattle.mt_tokens.specs.declared.token.TokenFault.{TokenFault}
 use Rattle.mt_tokens.specs.declared.token.TokenFault.TheVariants.{UnclosedString}
 
--- how many bytes a `\` takes with it from those behind it: of a longer character the first, since no other byte of it is a
+-- how many bytes a `\` takes with it from those after it: of a longer character the first, since no other byte of it is a
 -- quote, a `\` or a line end
 abbrev pub escape_len : List ℕ → ℕ
 escape_len rest = if starts_with nat_eq rest (13 ∷ 10 ∷ []) then 2 else 1
 
--- the length through the closing quote, where so many bytes at the front are taken by a `\`; none where a line end or the end comes first
+-- the length through the closing quote, where so many bytes at the start are taken by a `\`; none where a line end or the end comes first
 abbrev pub closing_len : ℕ → ℕ → List ℕ → Option ℕ
 closing_len quote taken [] = None
 closing_len quote taken (b ∷ rest) =

@@ -1,6 +1,6 @@
-//! The brackets that are open behind the tokens read so far.
+//! The brackets that are open after the tokens read so far.
 ghost use Rattle.std.specs.Prelude.{◌≡◌, ◌⊎◌, [], OnOk, IfErr, true, false};
-ghost use Rattle.mt_tokens.specs.Brackets.{is_opener, is_closer, closer_of, is_misfit, behind, innermost_place};
+ghost use Rattle.mt_tokens.specs.Brackets.{is_opener, is_closer, closer_of, is_misfit, openers_after, innermost_place};
 
 use crate::TokenFault;
 use std::alloc::Global;
@@ -9,13 +9,13 @@ use std::marker::Model;
 /// An opener that no closer has met.
 #[derive(Clone, Copy, Debug)]
 pub(crate) struct Opener {
-    /// Where it stands in the text.
+    /// Its place in the text.
     pub place: u32,
     /// The byte that closes it.
     pub closer: u8,
 }
 
-/// The unclosed openers. Contracts see the innermost first, which stands last in memory.
+/// The unclosed openers. Contracts see the innermost first, which is the last in memory.
 #[derive(Drop)]
 pub(crate) struct Openers {
     items: Vec<Opener>,
@@ -65,7 +65,7 @@ impl Openers {
     /// Reads the token that begins with the byte `b` at `place`: keeps an opener, and lets a closer
     /// take the innermost one.
     pub(crate) fn read(&mut self, b: u8, place: u32) -> Result<(), TokenFault>
-        ensures ok { OnOk result ((is_misfit b self.old ≡ false) × (self.new ≡ behind b place self.old)) }
+        ensures ok { OnOk result ((is_misfit b self.old ≡ false) × (self.new ≡ openers_after b place self.old)) }
         ensures err { IfErr result (λ e. (e ≡ TokenFault.NoMemory) ⊎ ((is_misfit b self.old ≡ true) × (e ≡ TokenFault.Unbalanced place))) }
     {
         if is_closer_byte(b) {

@@ -4,8 +4,8 @@ ghost use Rattle.std.specs.List.{prefix_len};
 ghost use Rattle.mt_tokens.specs.Classes.{is_space, is_digit, is_start, is_part, is_quote, is_not_yet};
 
 /// The byte at a place, and 0 from the end on.
-pub(crate) fn byte_at(rest: &[u8], at: usize) -> u8
-    ensures { result ≡ slice_index rest.now at }
+pub fn byte_at(rest: &[u8], at: usize) -> u8
+    ensures byte { result ≡ slice_index rest.now at }
 {
     rest.get(at).copied().unwrap_or(0)
 }
@@ -38,9 +38,9 @@ pub(crate) fn is_part_byte(b: u8) -> bool
     is_start_byte(b) || is_digit_byte(b)
 }
 
-/// What a string begins with.
-pub(crate) fn is_quote_byte(b: u8) -> bool
-    ensures { result ≡ is_quote b }
+/// What a string begins with: `"` or `'`.
+pub fn is_quote_byte(b: u8) -> bool
+    ensures quote { result ≡ is_quote b }
 {
     b == b'"' || b == b'\''
 }
@@ -52,14 +52,14 @@ pub(crate) fn is_not_yet_byte(b: u8) -> bool
     b == b'`' || b == b'\\' || b == b'#' || b == b'/' || b > 127
 }
 
-/// The length of the run of blanks at the front.
+/// The length of the run of blanks at the start.
 pub(crate) fn space_len(rest: &[u8]) -> usize
     ensures { result ≡ prefix_len is_space rest.now }
 {
     rest.iter().take_while(|b| is_space_byte(**b)).count()
 }
 
-/// The length of the run of letters, digits, `$` and `_` at the front.
+/// The length of the run of letters, digits, `$` and `_` at the start.
 pub(crate) fn part_len(rest: &[u8]) -> usize
     ensures value { result ≡ prefix_len is_part rest.now }
     ensures within { result ≤ length rest.now }

@@ -5,7 +5,7 @@ ghost use Rattle.mt_tokens.specs.Comments.{begins_comment, begins_line_end, line
 use crate::classes::byte_at;
 use crate::{TokenFault, TokenKind};
 
-/// Whether a comment begins at the front, which stands at `place` in the text.
+/// Whether `rest` begins with a comment, at `place` in the text.
 pub(crate) fn begins_comment_at(place: u32, rest: &[u8]) -> bool
     ensures { result ≡ begins_comment place rest.now }
 {
@@ -16,7 +16,7 @@ pub(crate) fn begins_comment_at(place: u32, rest: &[u8]) -> bool
     }
 }
 
-/// Whether a line end is at the front: a line feed, a carriage return, U+2028 or U+2029.
+/// Whether the text begins with a line end: a line feed, a carriage return, U+2028 or U+2029.
 fn begins_line_end_at(rest: &[u8]) -> bool
     ensures { result ≡ begins_line_end rest.now }
 {
@@ -52,7 +52,7 @@ fn front_block_len(rest: &[u8]) -> Option<usize>
     None
 }
 
-/// The comment at the front, which stands at `place` in the text.
+/// The comment that `rest` begins with, at `place` in the text.
 pub(crate) fn comment(place: u32, rest: &[u8]) -> Result<(TokenKind, usize), TokenFault>
     ensures { result ≡ comment_of place rest.now }
 {

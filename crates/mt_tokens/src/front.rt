@@ -1,4 +1,4 @@
-//! The token at the front of a text.
+//! The token that a text begins with.
 ghost use Rattle.std.specs.Prelude.{◌≡◌};
 ghost use Rattle.mt_tokens.specs.Front.{front_of};
 
@@ -11,8 +11,8 @@ use crate::punctuators::front_punct_len;
 use crate::strings::string;
 use crate::{TokenFault, TokenKind};
 
-/// The kind and the length of the token at the front of `rest`, which stands at `place` in the
-/// text: of the first kind that fits. Refused where none fits.
+/// The kind and the length of the token that `rest` begins with, at `place` in the text: of the first kind that fits.
+/// Refused where none fits.
 pub(crate) fn front_token(place: u32, rest: &[u8]) -> Result<(TokenKind, usize), TokenFault>
     ensures { result ≡ front_of place rest.now }
 {

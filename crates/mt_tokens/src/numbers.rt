@@ -2,11 +2,11 @@
 ghost use Rattle.std.specs.Prelude.{◌≡◌, ◌≤◌, length};
 ghost use Rattle.std.specs.List.{prefix_len};
 ghost use Rattle.mt_tokens.specs.Classes.{is_digit, is_part};
-ghost use Rattle.mt_tokens.specs.Numbers.{begins_number, begins_base, is_digit_part, fraction_len, sign_len, exponent_len, and_behind, number_len};
+ghost use Rattle.mt_tokens.specs.Numbers.{begins_number, begins_base, is_digit_part, fraction_len, sign_len, exponent_len, and_after, number_len};
 
 use crate::classes::{byte_at, is_digit_byte, part_len};
 
-/// Whether a number begins at the front.
+/// Whether a number begins here.
 pub(crate) fn begins_number_at(rest: &[u8]) -> bool
     ensures { result ≡ begins_number rest.now }
 {
@@ -14,7 +14,7 @@ pub(crate) fn begins_number_at(rest: &[u8]) -> bool
     is_digit_byte(first) || (first == b'.' && is_digit_byte(byte_at(rest, 1)))
 }
 
-/// Whether a number of another base than ten begins at the front.
+/// Whether a number of another base than ten begins here.
 fn begins_base_at(rest: &[u8]) -> bool
     ensures { result ≡ begins_base rest.now }
 {
@@ -44,7 +44,7 @@ fn digit_len(rest: &[u8]) -> usize
     rest.iter().take_while(|b| is_digit_byte(**b)).count()
 }
 
-/// The length of the `.` and the digits behind it.
+/// The length of the `.` and the digits after it.
 fn front_fraction_len(rest: &[u8]) -> usize
     ensures value { result ≡ fraction_len rest.now }
     ensures within { result ≤ length rest.now }
@@ -65,7 +65,7 @@ fn front_sign_len(rest: &[u8]) -> usize
     }
 }
 
-/// The length of the `e`, the sign and the digits behind it, of which there is one at least.
+/// The length of the `e`, the sign and the digits after it, of which there is one at least.
 fn front_exponent_len(rest: &[u8]) -> usize
     ensures value { result ≡ exponent_len rest.now }
     ensures within { result ≤ length rest.now }
@@ -81,22 +81,22 @@ fn front_exponent_len(rest: &[u8]) -> usize
     }
 }
 
-/// The length of the exponent, and of the letters behind it.
-fn behind_fraction_len(rest: &[u8]) -> usize
-    ensures value { result ≡ and_behind exponent_len (prefix_len is_part) rest.now }
+/// The length of the exponent, and of the letters after it.
+fn after_fraction_len(rest: &[u8]) -> usize
+    ensures value { result ≡ and_after exponent_len (prefix_len is_part) rest.now }
     ensures within { result ≤ length rest.now }
 {
     let len = front_exponent_len(rest);
     len + part_len(&rest[len..])
 }
 
-/// The length of the fraction, and of what belongs to the number behind it.
-fn behind_digits_len(rest: &[u8]) -> usize
-    ensures value { result ≡ and_behind fraction_len (and_behind exponent_len (prefix_len is_part)) rest.now }
+/// The length of the fraction, and of what belongs to the number after it.
+fn after_digits_len(rest: &[u8]) -> usize
+    ensures value { result ≡ and_after fraction_len (and_after exponent_len (prefix_len is_part)) rest.now }
     ensures within { result ≤ length rest.now }
 {
     let len = front_fraction_len(rest);
-    len + behind_fraction_len(&rest[len..])
+    len + after_fraction_len(&rest[len..])
 }
 
 /// The length of the number that the text begins with.
@@ -107,5 +107,5 @@ pub(crate) fn front_number_len(rest: &[u8]) -> usize
         return part_len(&rest[2..]) + 2;
     }
     let len = digit_part_len(rest);
-    len + behind_digits_len(&rest[len..])
+    len + after_digits_len(&rest[len..])
 }

@@ -1,4 +1,4 @@
-//! The longest punctuator at the front of a text.
+//! The longest punctuator that a text begins with.
 ghost use Rattle.std.specs.Prelude.{◌≡◌, [], ◌∷◌, ◌&&◌, nat_eq};
 ghost use Rattle.std.specs.Cmp.Lexicographic.{pointwise};
 ghost use Rattle.mt_tokens.specs.Classes.{is_digit};
@@ -82,7 +82,7 @@ fn is_choice_of_number_bytes(a: u8, b: u8, c: u8) -> bool
     a == b'?' && b == b'.' && is_digit_byte(c)
 }
 
-/// The length of the longest punctuator at the front, and 0 where there is none.
+/// The length of the longest punctuator that the text begins with, and 0 where there is none.
 #[tactic(auto, using(crate::proofs::Punctuation::punct_len_by_bytes))]
 pub(crate) fn front_punct_len(rest: &[u8]) -> usize
     ensures { result ≡ punct_len rest.now }

@@ -1,5 +1,23 @@
 //! What a source is by its path, and what can be wrong with one.
+use crate::MAX_TEXT_BYTES;
 use thiserror::Error;
+
+/// The most bytes of a source: as many as a text may have that tokens are made of.
+pub const MAX_SOURCE_BYTES: usize = MAX_TEXT_BYTES;
+
+/// The most distinct dependencies of a source.
+pub const MAX_DEPENDENCIES: usize = 4096;
+
+/// How a source names a dependency.
+#[derive(Clone, Copy, Debug, PartialEq, Eq)]
+pub enum DepKind {
+    /// By a call of `require`.
+    Require,
+    /// By an `import` or `export` statement.
+    Import,
+    /// By a call of `import`.
+    ImportCall,
+}
 
 /// What a source is by the extension of its path.
 #[derive(Clone, Copy, Debug, PartialEq, Eq)]
@@ -21,6 +39,14 @@ pub enum SyntaxFault {
     BadCharacter,
     #[error("unbalanced bracket")]
     UnbalancedBracket,
+    #[error("unclosed template")]
+    UnclosedTemplate,
+    #[error("unclosed regular expression")]
+    UnclosedRegex,
+    #[error("import form")]
+    ImportForm,
+    #[error("export form")]
+    ExportForm,
 }
 
 /// Why a source is refused. Places are byte offsets from 0.
@@ -34,7 +60,10 @@ pub enum SourceFault {
     /// The source has a form that is not supported yet.
     #[error("not built yet at {place}")]
     NotYet { place: u32 },
-    /// More than 4,096 distinct dependencies.
+    /// A JSON source that isn't JSON.
+    #[error("not JSON")]
+    Json,
+    /// More than `MAX_DEPENDENCIES` distinct dependencies.
     #[error("more than 4096 dependencies")]
     TooManyDeps,
     #[error("out of memory")]

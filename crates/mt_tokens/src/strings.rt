@@ -4,7 +4,7 @@ ghost use Rattle.mt_tokens.specs.Strings.{escape_len, closing_len, string_of};
 
 use crate::{TokenFault, TokenKind};
 
-/// How many bytes a `\` takes with it from those behind it: a carriage return and a line feed are
+/// How many bytes a `\` takes with it from those after it: a carriage return and a line feed are
 /// one character.
 fn front_escape_len(rest: &[u8]) -> usize
     ensures { result ≡ escape_len rest.now }
@@ -33,7 +33,7 @@ fn front_closing_len(quote: u8, rest: &[u8]) -> Option<usize>
     None
 }
 
-/// The string at the front, which stands at `place` in the text and begins with a quote.
+/// The string that `rest` begins with, at `place` in the text. It begins with a quote.
 pub(crate) fn string(place: u32, rest: &[u8]) -> Result<(TokenKind, usize), TokenFault>
     ensures { result ≡ string_of place rest.now }
 {

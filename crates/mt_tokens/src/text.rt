@@ -6,6 +6,7 @@ ghost use Rattle.std.specs.Cmp.Lexicographic.{pointwise, slice_cmp, nat_list_eq_
 ghost use Rattle.std.specs.Cmp.{partial_equiv_from_equiv};
 ghost use Rattle.std.proofs.Common.{refl};
 
+use mt_containers::{Copies, KeyMap, List, TextKey};
 use std::alloc::{AllocError, Global};
 use std::cmp::Ordering;
 use std::fmt;
@@ -36,7 +37,7 @@ impl Text {
         }
     }
 
-    /// A copy of `text`. Refused only for want of memory.
+    /// A copy of `text`. Refused only where memory runs out.
     pub fn from_str(alloc: Global, text: &str) -> Result<Text, AllocError>
         ensures bytes { IfOk result (λ t. t ≡ text.now) }
     {
@@ -87,7 +88,7 @@ impl Text {
         self.string.is_empty()
     }
 
-    /// Puts `text` behind the text. Refused only for want of memory, and the text is then as before.
+    /// Adds `text` at the end. Refused only where memory runs out, and the text is then as before.
     pub fn push_str(&mut self, text: &str) -> Result<(), AllocError>
         ensures ok { OnOk result (self.new ≡ self.old ++ text.now) }
         ensures err { OnErr result (self.new ≡ self.old) }
@@ -96,6 +97,12 @@ impl Text {
     }
 }
 
+/// Texts in a row.
+pub type TextList = List<Text>;
+
+/// Values by text.
+pub type TextMap<V> = KeyMap<Text, V>;
+
 impl Clone for Text {
     ghost is_clone = { λ s t. t ≡ s };
 
@@ -103,6 +110,10 @@ impl Clone for Text {
         let string = self.string.clone()?;
         Ok(Text { string })
     }
+}
+
+impl Copies for Text {
+    ghost copies = { λ x y h. h };
 }
 
 impl PartialEq for Text {
@@ -141,6 +152,19 @@ impl Ord for Text {
     fn cmp(&self, other: &Text) -> Ordering {
         self.string.as_str().cmp(other.string.as_str())
     }
+}
+
+/// A text is what contracts see of it.
+impl TextKey for Text {
+    ghost use Rattle.mt_containers.specs.Texts.{own_texts, own_entries};
+
+    ghost text = { λ t. t };
+
+    ghost texts = { own_texts };
+
+    ghost entries = { own_entries };
+
+    ghost by_text = { λ x y. refl };
 }
 
 impl fmt::Display for Text {

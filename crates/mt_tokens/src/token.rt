@@ -10,7 +10,7 @@ pub enum TokenKind {
     Comment,
     /// A name or a word of the language.
     Ident,
-    /// A number, with the letters behind it.
+    /// A number, with the letters after it.
     Number,
     /// A string in quotes.
     Str,
@@ -18,14 +18,14 @@ pub enum TokenKind {
     Punct,
 }
 
-/// A token: its kind, and where it stands in the text, in bytes counted from 0.
+/// A token: its kind, and its place in the text, in bytes counted from 0.
 #[derive(Clone, Copy, Debug)]
 pub struct Token {
     /// What it is.
     pub kind: TokenKind,
     /// The place of its first byte.
     pub start: u32,
-    /// The place behind its last byte.
+    /// The place after its last byte.
     pub end: u32,
 }
 
@@ -48,7 +48,7 @@ pub enum TokenFault {
     /// a private name, or a name with an escape or with characters above U+007F.
     #[error("what stands at {place} is not read yet")]
     NotYet { place: u32 },
-    /// No memory for the tokens.
+    /// Out of memory.
     #[error("out of memory")]
     NoMemory,
 }

@@ -1,8 +1,8 @@
 //! Limits at the last value that is good and the first that is not.
 use super::{Given, HEAD, PRELUDE, joined, left, nothing_fails, run_over};
 use crate::ending::{Ending, Limit};
-use mt_path::Path;
-use mt_tokens::Bytes;
+use m0_path::Path;
+use m0_tokens::Bytes;
 use std::alloc::{AllocError, Global};
 use std::collections::BTreeMap;
 

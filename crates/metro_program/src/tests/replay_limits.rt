@@ -1,7 +1,7 @@
 //! Limits of scripts and of changes, at the last value that is good and the first that is not.
 use super::written::ALONE;
 use super::{Given, left, nothing_fails, replayed, run, run_script, tree};
-use mt_tokens::{Bytes, Text};
+use m0_tokens::{Bytes, Text};
 use std::alloc::{AllocError, Global};
 
 /// The line of a first build of a lone entry, without what tells of its bundle.

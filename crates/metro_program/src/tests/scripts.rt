@@ -1,7 +1,7 @@
 //! Scripts that are bad, that are cut, and that come in any pieces.
 use super::written::{ALONE, TWO};
 use super::{Given, left, nothing_fails, replayed, run, run_script, tree};
-use mt_tokens::Bytes;
+use m0_tokens::Bytes;
 use std::alloc::{AllocError, Global};
 use std::thread::Threads;
 

@@ -1,7 +1,7 @@
 use Rattle.std.proofs.Common.{rules, ◌≡◌, ◌==◌, false, length, Err, OnOk, OnErr, sym, subst}
 use Rattle.std.specs.Option.{option_map_or}
-use Rattle.mt_io.specs.Told.{Grows, GrowsByPrefix}
-use Rattle.mt_fresh.specs.Graphs.{fresh_graph}
+use Rattle.m0_io.specs.Told.{Grows, GrowsByPrefix}
+use Rattle.m0_fresh.specs.Graphs.{fresh_graph}
 use Rattle.metro_program.specs.Replay.{Step}
 use Rattle.metro_program.specs.Stages.{standing}
 use Rattle.metro_program.proofs.Builds.{new_build}

@@ -3,9 +3,9 @@ use Rattle.std.specs.List.Sorted.{IsStrictlySortedBy}
 use Rattle.std.specs.Ordering.{nat_cmp}
 use Rattle.std.specs.Cmp.Lexicographic.{slice_cmp}
 use Rattle.std.specs.FinMap.{keys}
-use Rattle.mt_io.proofs.Tables.{keys_sorted}
-use Rattle.mt_revision.specs.Numberings.{extended}
-use Rattle.mt_revision.specs.Revisions.{bundle_of, held_before}
+use Rattle.m0_io.proofs.Tables.{keys_sorted}
+use Rattle.m0_revision.specs.Numberings.{extended}
+use Rattle.m0_revision.specs.Revisions.{bundle_of, held_before}
 use Rattle.metro_program.specs.Reports.{revision_line}
 use Rattle.metro_program.specs.Stages.{published_of}
 use Rattle.metro_program.proofs.Builds.{few_extended, few_members, few_numbered, next_line, next_of}

@@ -1,5 +1,5 @@
 use Rattle.std.proofs.Common.{rules, ◌≡◌, length, subst}
-use Rattle.mt_io.specs.Told.{Grows}
+use Rattle.m0_io.specs.Told.{Grows}
 use Rattle.metro_program.specs.Reports.{refused_line}
 use Rattle.metro_program.proofs.build.refuse.Goals as goal
 

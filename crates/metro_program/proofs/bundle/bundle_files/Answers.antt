@@ -1,7 +1,7 @@
 use Rattle.std.proofs.Common.{[], ◌∷◌, sym, subst, arith}
 use Rattle.std.specs.List.{IsDistinct}
-use Rattle.mt_io.specs.Told.{Grows, GrowsByPrefix}
-use Rattle.mt_io.proofs.Growth.{part_all}
+use Rattle.m0_io.specs.Told.{Grows, GrowsByPrefix}
+use Rattle.m0_io.proofs.Growth.{part_all}
 use Rattle.metro_program.specs.Still.{first_bundle, graph_plan}
 use Rattle.metro_program.proofs.Graphs.{answered_graph, answered_size}
 use Rattle.metro_program.proofs.bundle.bundle_files.Goals as goal

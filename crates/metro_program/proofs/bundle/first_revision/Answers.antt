@@ -5,11 +5,11 @@ use Rattle.std.specs.Cmp.Lexicographic.{slice_cmp}
 use Rattle.std.specs.FinMap.{keys, len, len-entries}
 use Rattle.std.proofs.lemmas.List.{length-map}
 use Rattle.std.proofs.lemmas.Result.{IfOk-weaker}
-use Rattle.mt_io.proofs.Tables.{keys_sorted}
-use Rattle.mt_revision.specs.Builds.{bundle_in}
-use Rattle.mt_revision.specs.Numberings.{extended}
-use Rattle.mt_revision.specs.Revisions.{bundle_of}
-use Rattle.mt_revision.proofs.Extensions.{extended_short}
+use Rattle.m0_io.proofs.Tables.{keys_sorted}
+use Rattle.m0_revision.specs.Builds.{bundle_in}
+use Rattle.m0_revision.specs.Numberings.{extended}
+use Rattle.m0_revision.specs.Revisions.{bundle_of}
+use Rattle.m0_revision.proofs.Extensions.{extended_short}
 use Rattle.metro_program.proofs.bundle.first_revision.Goals as goal
 
 pub extend-requires-clause-members : goal.extend-requires-clause-members

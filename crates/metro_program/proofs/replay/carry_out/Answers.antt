@@ -1,7 +1,7 @@
 use Rattle.std.proofs.Common.{sym, subst}
 use Rattle.std.specs.Prelude.{IfErr}
-use Rattle.mt_files.specs.Crawl.{entry_of}
-use Rattle.mt_files.specs.declared.change.Change.TheVariants as change
+use Rattle.m0_files.specs.Crawl.{entry_of}
+use Rattle.m0_files.specs.declared.change.Change.TheVariants as change
 use Rattle.metro_program.specs.Replay.{changed, moved}
 use Rattle.metro_program.specs.Stages.{Halted, standing}
 use Rattle.metro_program.proofs.Moves.{silent_halts}

@@ -1,5 +1,5 @@
 use Rattle.std.proofs.Common.{ap, subst, ◌∙◌}
-use Rattle.mt_io.specs.Told.{Grows, GrowsByPrefix}
+use Rattle.m0_io.specs.Told.{Grows, GrowsByPrefix}
 use Rattle.metro_program.specs.Replay.{built, opened}
 use Rattle.metro_program.specs.Stages.{standing}
 use Rattle.metro_program.proofs.Openings.{opened_fault, opened_keeps, opened_lines, trouble_fault}

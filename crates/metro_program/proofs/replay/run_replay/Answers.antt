@@ -1,7 +1,7 @@
 use Rattle.std.proofs.Common.{◌∷◌, [], subst, ◌∙◌}
 use Rattle.std.specs.List.{IsDistinct}
-use Rattle.mt_io.specs.Told.{Grows}
-use Rattle.mt_files.specs.Crawl.{crawled}
+use Rattle.m0_io.specs.Told.{Grows}
+use Rattle.m0_files.specs.Crawl.{crawled}
 use Rattle.metro_program.specs.Replay.{files_plan}
 use Rattle.metro_program.specs.Runs.{Keeps}
 use Rattle.metro_program.proofs.Openings.{crawl_ok}

@@ -1,5 +1,5 @@
 use Rattle.std.proofs.Common.{◌≡◌, ◌≤◌, Some, None}
-use Rattle.mt_io.specs.Files.{Files}
+use Rattle.m0_io.specs.Files.{Files}
 use Rattle.metro_program.specs.Runs.{Run, Start}
 use Rattle.metro_program.specs.Stages.{IsBounded, standing}
 use Rattle.metro_program.proofs.replay.run_script.Given as goal

@@ -1,6 +1,6 @@
 use Rattle.std.proofs.Common.{◌≡◌, ◌∙◌, sym, rules}
 use Rattle.std.specs.FinMap.{len}
-use Rattle.mt_revision.specs.Revisions.{held_of}
+use Rattle.m0_revision.specs.Revisions.{held_of}
 use Rattle.metro_program.proofs.Texts.{len_texts}
 use Rattle.metro_program.proofs.report.revision_line.Goals as goal
 

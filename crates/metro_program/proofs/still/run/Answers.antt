@@ -1,5 +1,5 @@
 use Rattle.std.proofs.Common.{◌≡◌, Ok, ap, sym, subst, ◌∙◌}
-use Rattle.mt_io.specs.Told.{Grows}
+use Rattle.m0_io.specs.Told.{Grows}
 use Rattle.metro_program.specs.declared.words.Request.TheVariants.{Replay}
 use Rattle.metro_program.specs.Words.{words_of}
 use Rattle.metro_program.proofs.Asked.{asked_keeps, asked_plan}

@@ -1,7 +1,7 @@
 use Rattle.std.proofs.Common.{ap, ◌∙◌}
 use Rattle.std.specs.FinMap.{keys}
-use Rattle.mt_files.specs.Rescans.{with_paths}
-use Rattle.mt_files.proofs.Unions.{keys-both}
+use Rattle.mt_files.specs.PathSets.{with_paths}
+use Rattle.mt_files.proofs.PathSets.{keys-both}
 use Rattle.mt_files.proofs.difference.paths_of.Goals as goal
 
 pub returns : goal.returns

@@ -1,5 +1,5 @@
 use Rattle.mt_files.proofs.Rescans.{changes_ascend, changes_lead, changes_matter, no_changes}
-use Rattle.mt_files.proofs.Sole.{only_changes}
+use Rattle.mt_files.proofs.Rescans.{only_changes}
 use Rattle.mt_files.proofs.law.law_of_rescans.Goals as goal
 
 pub returns : goal.returns

@@ -1,13 +1,12 @@
-use Rattle.std.proofs.Common.{length, ◌-◌, ◌≡◌, ◌≤◌, take}
-use Rattle.mt_io.specs.Told.{Grows}
+use Rattle.std.proofs.Common.{length, ◌-◌, ◌≤◌, take}
+use Rattle.mt_io.specs.Seen.{Wrote}
 use Rattle.mt_io.proofs.sink.send_all.Given as goal
 
 abbrev pub invariant-loop-at : goal.invariant-loop-at
 invariant-loop-at g l = record {
   within : l.at ≤ length l.bytes;
-  sent : Grows (g.S.Sink.told l.initial.sink) (g.S.Sink.told l.sink) (take l.at l.bytes);
-  later : g.S.Sink.count l.initial.sink ≤ g.S.Sink.count l.sink;
-  apart : g.S.Sink.beside l.sink ≡ g.S.Sink.beside l.initial.sink;
+  sent : Wrote (g.S.Sink.seen l.initial.sink) (g.S.Sink.seen l.sink) (take l.at l.bytes);
+  later : (g.S.Sink.seen l.initial.sink).faults ≤ (g.S.Sink.seen l.sink).faults;
 }
 
 abbrev pub decreases-loop-at : goal.decreases-loop-at

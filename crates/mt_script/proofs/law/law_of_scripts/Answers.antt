@@ -1,5 +1,5 @@
-use Rattle.mt_script.proofs.Laws.{read, room, written}
-use Rattle.mt_script.proofs.Runs.{whole_script}
+use Rattle.mt_script.proofs.CommandTexts.{read, room, written}
+use Rattle.mt_script.proofs.Scripts.{whole_script}
 use Rattle.mt_script.proofs.law.law_of_scripts.Goals as goal
 
 pub returns-clause-written : goal.returns-clause-written

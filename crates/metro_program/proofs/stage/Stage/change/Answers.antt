@@ -1,5 +1,5 @@
 use Rattle.std.proofs.Common.{rules, ◌≡◌, ◌++◌, ◌∷◌, [], refl}
-use Rattle.mt_files.specs.Changes.{stepped}
+use Rattle.m0_files.specs.Changes.{stepped}
 use Rattle.metro_program.proofs.Bounds.{bounded_change}
 use Rattle.metro_program.proofs.stage.Stage.change.Goals as goal
 

@@ -2,7 +2,7 @@ use Rattle.std.proofs.Common.{◌≡◌, ◌∷◌, Ok, Err, sym, subst, ap, ◌
 use Rattle.std.specs.List.{All, fold}
 use Rattle.std.specs.Vec.Iter.{into_iter_items}
 use Rattle.std.proofs.lemmas.List.Elements.{All-tail}
-use Rattle.mt_files.specs.Changes.{IsChange}
+use Rattle.m0_files.specs.Changes.{IsChange}
 use Rattle.metro_program.specs.Replay.{changed_by, then_changed}
 use Rattle.metro_program.specs.Stages.{standing}
 use Rattle.metro_program.proofs.Moves.{change_ends, change_leads, Changes}

@@ -1,7 +1,7 @@
 use Rattle.std.proofs.Common.{◌≡◌, Ok}
 use Rattle.std.specs.List.{All, fold}
 use Rattle.std.specs.Vec.Iter.{into_iter_items}
-use Rattle.mt_files.specs.Changes.{IsChange}
+use Rattle.m0_files.specs.Changes.{IsChange}
 use Rattle.metro_program.specs.Replay.{then_changed}
 use Rattle.metro_program.specs.Stages.{IsBounded, standing}
 use Rattle.metro_program.proofs.stage.Stage.change_all.Given as goal

@@ -1,6 +1,6 @@
 use Rattle.std.proofs.Common.{◌≡◌}
 use Rattle.std.specs.FinMap as map
-use Rattle.mt_files.specs.Rescans.{with_paths}
+use Rattle.mt_files.specs.PathSets.{with_paths}
 use Rattle.mt_files.proofs.file_map.FileMap.add_paths.Given as goal
 
 abbrev pub invariant-loop-path : goal.invariant-loop-path

@@ -1,12 +1,7 @@
-use Rattle.std.proofs.Common.{ap, sym, subst, ◌∙◌}
-use Rattle.std.specs.FinMap as map
-use Rattle.mt_io.proofs.Tables.{remove_table}
+use Rattle.std.proofs.Common.{sym, subst}
 use Rattle.mt_files.specs.Snapshots.{IsSnapshot}
-use Rattle.mt_files.proofs.Kept.{remove_kept}
+use Rattle.mt_files.proofs.Snapshots.{remove_kept}
 use Rattle.mt_files.proofs.file_map.FileMap.remove.Goals as goal
 
 pub invariant_of-self : goal.invariant_of-self
-invariant_of-self c = subst IsSnapshot (sym (remove_table c.self.inside.files c.remove.new.self c.args.path.now c.remove.ensures.updates)) (remove_kept _ c.args.path.now c.self.invariant)
-
-pub returns : goal.returns
-returns c = record { removed = remove_table c.self.inside.files c.remove.new.self c.args.path.now c.remove.ensures.updates ∙ ap (λ m. map.remove m c.args.path.now) c.self.view_is }
+invariant_of-self c = subst IsSnapshot (sym c.remove.ensures.rest) (remove_kept _ c.args.path.now c.self.invariant)

@@ -1,4 +1,4 @@
-use Rattle.mt_files.proofs.Bounds.{source_bounded}
+use Rattle.mt_files.proofs.Snapshots.{source_bounded}
 use Rattle.mt_files.proofs.file_map.FileMap.source.Goals as goal
 
 pub returns-in-Some-Source-clause-bound : goal.returns-in-Some-Source-clause-bound

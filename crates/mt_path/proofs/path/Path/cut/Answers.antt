@@ -1,12 +1,12 @@
 use Rattle.std.proofs.Common.{arith, Some, None, sym, ◌∙◌, lit<}
-use Rattle.mt_path.proofs.Cuts.{cut_last}
+use Rattle.mt_path.proofs.Splits.{cut_last}
 use Rattle.mt_path.proofs.Folders.{cut_path, has_slash}
 use Rattle.mt_path.proofs.path.Path.cut.Goals as goal
 
 pub returns-in-Some : goal.returns-in-Some
 returns-in-Some c =
-    let known = cut_last 47 c.as_str.result.now (Some (c.in-Some.front, c.in-Some.name)) (lit< tt) c.in-Some.ensures.cases in
-    let p = cut_path c.args.self.now c.in-Some.front.now c.in-Some.name.now c.as_str.ensures.path (sym c.as_str.ensures.text ∙ known.0) known.1 in
+    let known = cut_last 47 c.as_str.result.now (Some (c.in-Some.folder, c.in-Some.name)) (lit< tt) c.in-Some.ensures.cases in
+    let p = cut_path c.args.self.now c.in-Some.folder.now c.in-Some.name.now c.as_str.ensures.path (sym c.as_str.ensures.text ∙ known.0) known.1 in
     record { folder = p.0; name = p.1; path = c.as_str.ensures.path }
 
 pub returns-in-None-clause-folder : goal.returns-in-None-clause-folder

@@ -1,7 +1,7 @@
 use Rattle.std.proofs.Common.{rules, ◌≡◌, subst}
 use Rattle.mt_path.specs.Names.{folder_of}
 use Rattle.mt_path.specs.Parse.{IsPath}
-use Rattle.mt_path.proofs.Laws.{folder_is_path}
+use Rattle.mt_path.proofs.Segments.{folder_is_path}
 use Rattle.mt_path.proofs.path.Path.folder.Goals as goal
 
 pub returns-else-is_empty-clause-path : goal.returns-else-is_empty-clause-path

@@ -1,6 +1,6 @@
 use Rattle.std.proofs.Common.{ap, ◌∙◌}
 use Rattle.mt_path.specs.Names.{is_root}
-use Rattle.mt_path.proofs.Laws.{is_root_by_segments}
+use Rattle.mt_path.proofs.Segments.{is_root_by_segments}
 use Rattle.mt_path.proofs.path.Path.is_root.Goals as goal
 
 pub returns-clause-segments : goal.returns-clause-segments

@@ -7,5 +7,5 @@ use Rattle.mt_revision.proofs.modules.ModuleMap.new.Goals as goal
 
 pub invariant_of-result : goal.invariant_of-result
 invariant_of-result c number h =
-    let e = sym h ∙ ap (λ es. map.contains_key (map.from_entries {R = nat_cmp} es) number) c.new.ensures.empty ∙ ap is_some (map.get-empty {X = Module} nat_cmp number) in
+    let e = sym h ∙ ap (λ m. map.contains_key m number) c.new.ensures.empty ∙ ap is_some (map.get-empty {X = Module} nat_cmp number) in
     cc

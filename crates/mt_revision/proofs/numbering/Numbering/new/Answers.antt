@@ -15,7 +15,7 @@ none_few ps e = rw e (omega arith)
 
 pub invariant_of-result : goal.invariant_of-result
 invariant_of-result c = (
-  subst (IsDistinct bytes_eq) (sym c.new.ensures) none_distinct,
-  (λ q. ap (λ m. table.get m q) c.new-2.ensures.empty ∙ numbers_none q ∙ ap (λ ps. place_in ps q) (sym c.new.ensures)),
-  none_few c.new.result c.new.ensures,
+  subst (IsDistinct bytes_eq) (sym c.new.ensures.empty) none_distinct,
+  (λ q. ap (λ m. table.get m q) c.new-2.ensures.empty ∙ numbers_none q ∙ ap (λ ps. place_in ps q) (sym c.new.ensures.empty)),
+  none_few c.new.result c.new.ensures.empty,
 )

@@ -1,0 +1,11 @@
+pub mod Bounds
+pub mod Kept
+pub mod Below
+pub mod Gathered
+pub mod Takes
+pub mod Laws
+pub mod Reaches
+pub mod Unions
+pub mod Rescans
+pub mod Counts
+pub mod Sole

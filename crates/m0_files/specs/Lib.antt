@@ -1,0 +1,11 @@
+pub mod Snapshots
+pub mod Changes
+pub mod Journals
+pub mod Walks
+pub mod Crawl
+pub mod Faults
+pub mod Resolve
+pub mod Edges
+pub mod Reach
+pub mod Fresh
+pub mod Rescans

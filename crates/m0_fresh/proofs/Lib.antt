@@ -1,0 +1,14 @@
+pub mod Follows
+pub mod Explores
+pub mod Settles
+pub mod Names
+pub mod Required
+pub mod Readings
+pub mod Sources
+pub mod Bodies
+pub mod Gathering
+pub mod Quoting
+pub mod Sizes
+pub mod Targets
+pub mod Firsts
+pub mod Encodings

@@ -1,0 +1,13 @@
+pub mod Places
+pub mod Extensions
+pub mod Sets
+pub mod Leasts
+pub mod Slots
+pub mod Touches
+pub mod Lengths
+pub mod Writes
+pub mod Under
+pub mod Holds
+pub mod Bundles
+pub mod Edges
+pub mod Leads

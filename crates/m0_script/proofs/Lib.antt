@@ -1,0 +1,12 @@
+pub mod Choices
+pub mod Endings
+pub mod Blanks
+pub mod Readings
+pub mod Numerals
+pub mod Understood
+pub mod Spelling
+pub mod Telling
+pub mod Nexts
+pub mod Laws
+pub mod Runs
+pub mod Taking

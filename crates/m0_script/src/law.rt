@@ -1,0 +1,18 @@
+//! Laws of the definitions that contracts cite, on a function that does nothing.
+ghost use Rattle.std.specs.Prelude.{◌≡◌, ◌<◌, ℕ, List, ◌++◌, length, None};
+ghost use Rattle.std.specs.List.{All};
+ghost use Rattle.m0_script.specs.Commands.{GoesOn, IsCommand, command_text, script_text};
+ghost use Rattle.m0_script.specs.Scripts.{script_of};
+ghost use Rattle.m0_script.specs.Steps.{Found, next_of};
+ghost use Rattle.m0_script.specs.declared.command.Command.{Command};
+ghost use Rattle.m0_script.specs.declared.command.Command.TheVariants.{End};
+
+/// Does nothing, and carries the laws of scripts: what is written is read again, whatever stands behind it; what is read
+/// was written; and the script of commands that are written one after another, with an `end` behind them, is they.
+pub fn law_of_scripts()
+    ensures written { (n : ℕ) (command : Command) (rest : List ℕ) → IsCommand command → n < 1048576 → next_of n (command_text command ++ rest) ≡ Found command rest }
+    ensures text { (n : ℕ) (bytes : List ℕ) (command : Command) (rest : List ℕ) → next_of n bytes ≡ Found command rest → bytes ≡ command_text command ++ rest }
+    ensures command { (n : ℕ) (bytes : List ℕ) (command : Command) (rest : List ℕ) → next_of n bytes ≡ Found command rest → IsCommand command }
+    ensures count { (n : ℕ) (bytes : List ℕ) (command : Command) (rest : List ℕ) → next_of n bytes ≡ Found command rest → n < 1048576 }
+    ensures script { (commands : List Command) (more : List ℕ) → All IsCommand commands → All GoesOn commands → length commands < 1048576 → script_of (script_text commands ++ command_text End ++ more) ≡ record { commands = commands; ending = None } }
+{}

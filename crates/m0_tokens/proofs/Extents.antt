@@ -1,0 +1,142 @@
+-- The lengths of comments, numbers and strings are within the text.
+use Rattle.std.proofs.Common.{ℕ, suc, Bool, true, false, ◌≡◌, ◌==◌, ◌<◌, ◌≤◌, ◌+◌, ◌-◌, ◌&&◌, ◌||◌, List, [], ◌∷◌, length, take, drop, get_or, arith, refl, sym, ap, cond, eqb, nat_lt, Option, Some, None}
+use Rattle.std.specs.Option.{option_map, IfSome}
+use Rattle.std.specs.List.{starts_with, prefix_len}
+use Rattle.std.proofs.lemmas.List.{length-take, length-drop, get_or_past}
+use Rattle.std.proofs.lemmas.List.Sums.{prefix_len-le-length}
+use Rattle.std.proofs.lemmas.Bool.Decides.{nat_tests, Decides-eqb}
+use Rattle.std.proofs.lemmas.Slice.Eq.{slice_eq-Decides}
+use Rattle.m0_tokens.specs.Classes.{is_digit, is_part}
+use Rattle.m0_tokens.specs.Comments.{begins_line_end, line_len, block_len, begins_comment}
+use Rattle.m0_tokens.specs.Numbers.{begins_base, begins_number, is_digit_part, fraction_len, sign_len, exponent_len, and_behind, number_len}
+use Rattle.m0_tokens.specs.Strings.{closing_len, escape_len}
+
+-- a text is as long as what it begins with
+pub starts_within : (rest p : List ℕ) → starts_with eqb rest p ≡ true → length p ≤ length rest
+starts_within rest p h =
+    let same = (slice_eq-Decides Decides-eqb p (take (length p) rest) _ refl).0 h in
+    omega (arith, ap length same, length-take (length p) rest)
+
+-- a length that is counted on stays within one byte more
+pub map_within : (x : Option ℕ) (m : ℕ) → IfSome x (λ n. n ≤ m) → IfSome (option_map (λ n. n + 1) x) (λ n. n ≤ suc m)
+map_within None m h = tt
+map_within (Some n) m h = omega arith
+
+pub if_within : (test : Bool) (x y : Option ℕ) (m : ℕ) → (test ≡ true → IfSome x (λ n. n ≤ m)) → IfSome y (λ n. n ≤ m) → IfSome (cond test x y) (λ n. n ≤ m)
+if_within true x y m f g = f refl
+if_within false x y m f g = g
+
+-- the end of a comment is within the text
+pub block_within : (rest : List ℕ) → IfSome (block_len rest) (λ n. n ≤ length rest)
+block_within [] = tt
+block_within (b ∷ rest) =
+    if_within (starts_with eqb (b ∷ rest) (42 ∷ 47 ∷ [])) (Some 2) (option_map (λ n. n + 1) (block_len rest)) (length (b ∷ rest))
+    (starts_within (b ∷ rest) (42 ∷ 47 ∷ []))
+    (map_within (block_len rest) (length rest) (block_within rest))
+
+-- the end of a string is within the text
+pub closing_within : (quote taken : ℕ) (rest : List ℕ) → IfSome (closing_len quote taken rest) (λ n. n ≤ length rest)
+closing_within quote taken [] = tt
+closing_within quote taken (b ∷ rest) =
+    let some : 1 ≤ length (b ∷ rest) = omega arith in
+    if_within (nat_lt 0 taken) _ _ (length (b ∷ rest)) (λ _. map_within (closing_len quote (taken - 1) rest) (length rest) (closing_within quote (taken - 1) rest))
+    (if_within (b == quote) (Some 1) _ (length (b ∷ rest)) (λ _. some)
+    (if_within (b == 10 || b == 13) None _ (length (b ∷ rest)) (λ _. tt)
+    (map_within (closing_len quote (cond (b == 92) (escape_len rest) 0) rest) (length rest) (closing_within quote (cond (b == 92) (escape_len rest) 0) rest))))
+
+-- a length that a test chooses, or none
+pub choose_within : (test : Bool) (x n : ℕ) → (test ≡ true → x ≤ n) → cond test x 0 ≤ n
+choose_within true x n f = f refl
+choose_within false x n f = omega arith
+
+-- one length or another
+pub pick_within : (test : Bool) (x y n : ℕ) → (test ≡ true → (0 < x) × (x ≤ n)) → (0 < y) × (y ≤ n) → (0 < cond test x y) × (cond test x y ≤ n)
+pick_within true x y n f g = f refl
+pick_within false x y n f g = g
+
+pub and_right : (a b : Bool) → (a && b) ≡ true → b ≡ true
+and_right true b h = h
+and_right false b h = absurd (cc)
+
+pub if_at_most : (test : Bool) (x n : ℕ) → x ≤ n → cond test 0 x ≤ n
+if_at_most true x n h = omega arith
+if_at_most false x n h = h
+
+-- the line's end is within the text
+pub line_within : (rest : List ℕ) → line_len rest ≤ length rest
+line_within [] = omega arith
+line_within (b ∷ rest) = let i = line_within rest in if_at_most (begins_line_end (b ∷ rest)) (line_len rest + 1) (length (b ∷ rest)) (omega arith)
+
+-- a comment begins with a byte that ends no line
+pub comment_some : (place b : ℕ) (rest : List ℕ) → begins_comment place (b ∷ rest) ≡ true → 0 < line_len (b ∷ rest)
+comment_some place b rest h =
+    let e : begins_line_end (b ∷ rest) ≡ false = grind (arith, nat_tests) in
+    let l : line_len (b ∷ rest) ≡ line_len rest + 1 = ap (λ t. cond t 0 (line_len rest + 1)) e in
+    omega arith
+
+-- two parts are within the text, one behind the other
+pub and_behind_within : (p q : List ℕ → ℕ) → ((r : List ℕ) → p r ≤ length r) → ((r : List ℕ) → q r ≤ length r) → (r : List ℕ) → and_behind p q r ≤ length r
+and_behind_within p q f g r = omega (arith, f r, g (drop (p r) r), length-drop (p r) r)
+
+pub fraction_within : (r : List ℕ) → fraction_len r ≤ length r
+fraction_within [] = omega arith
+fraction_within (b ∷ r) =
+    let p = prefix_len-le-length is_digit_part r in choose_within (b == 46) (prefix_len is_digit_part r + 1) (length (b ∷ r)) (λ _. omega arith)
+
+-- a digit is within the text
+pub digit_within : (r : List ℕ) (at : ℕ) → is_digit (get_or r at 0) ≡ true → at < length r
+digit_within r at h =
+    let past : length r ≤ at → get_or r at 0 ≡ 0 = get_or_past r at 0 in
+    grind (arith, nat_tests)
+
+pub exponent_within : (r : List ℕ) → exponent_len r ≤ length r
+exponent_within r =
+    let at = sign_len (drop 1 r) + 1 in
+    choose_within ((get_or r 0 0 == 101 || get_or r 0 0 == 69) && is_digit (get_or r at 0)) (prefix_len is_digit (drop at r) + at) (length r)
+    (λ h.
+    let d = digit_within r at (and_right (get_or r 0 0 == 101 || get_or r 0 0 == 69) (is_digit (get_or r at 0)) h) in
+    omega (arith, d, prefix_len-le-length is_digit (drop at r), length-drop at r))
+
+-- a number of another base has two bytes
+pub base_within : (b : ℕ) (rest : List ℕ) → begins_base (b ∷ rest) ≡ true → 2 ≤ length (b ∷ rest)
+base_within b [] h = let f : false ≡ true = and_right (b == 48) false h in absurd (cc)
+base_within b (c ∷ rest) h = omega arith
+
+-- where no digit begins a number, `.` does
+pub or_second : (d e u n : Bool) → (d || (e && n)) ≡ true → (d || u) ≡ false → e ≡ true
+or_second true e u n h g = absurd (cc)
+or_second false true u n h g = refl
+or_second false false u n h g = absurd (cc)
+
+-- a number of base ten has a byte
+pub decimal_some :
+    (b : ℕ) (rest : List ℕ) (tail : List ℕ → ℕ) (digit : Bool) → is_digit_part b ≡ digit → begins_number (b ∷ rest) ≡ true →
+    0 < and_behind (prefix_len is_digit_part) (and_behind fraction_len tail) (b ∷ rest)
+decimal_some b rest tail true e h =
+    let p : prefix_len is_digit_part (b ∷ rest) ≡ 1 + prefix_len is_digit_part rest = ap (λ t. cond t (1 + prefix_len is_digit_part rest) 0) e in
+    omega (arith, p)
+decimal_some b rest tail false e h =
+    let p : prefix_len is_digit_part (b ∷ rest) ≡ 0 = ap (λ t. cond t (1 + prefix_len is_digit_part rest) 0) e in
+    let d : (b == 46) ≡ true = or_second (is_digit b) (b == 46) (b == 95) (is_digit (get_or rest 0 0)) h e in
+    let f : fraction_len (b ∷ rest) ≡ prefix_len is_digit_part rest + 1 = ap (λ t. cond t (prefix_len is_digit_part rest + 1) 0) d in
+    rw p (omega (arith, f))
+
+pub number_within : (b : ℕ) (rest : List ℕ) → begins_number (b ∷ rest) ≡ true → (0 < number_len (b ∷ rest)) × (number_len (b ∷ rest) ≤ length (b ∷ rest))
+number_within b rest h =
+    let part = prefix_len is_part in
+    pick_within (begins_base (b ∷ rest)) (part (drop 2 (b ∷ rest)) + 2) (and_behind (prefix_len is_digit_part) (and_behind fraction_len (and_behind exponent_len part)) (b ∷ rest)) (length (b ∷ rest))
+    (λ t.
+    let l = base_within b rest t in
+    (omega arith, omega (arith, l, prefix_len-le-length is_part (drop 2 (b ∷ rest)), length-drop 2 (b ∷ rest)))) (
+      decimal_some b rest (and_behind exponent_len part) (is_digit_part b) refl h,
+      and_behind_within (prefix_len is_digit_part) (and_behind fraction_len (and_behind exponent_len part)) (prefix_len-le-length is_digit_part)
+          (and_behind_within fraction_len (and_behind exponent_len part) fraction_within (and_behind_within exponent_len part exponent_within (prefix_len-le-length is_part)))
+          (b ∷ rest),
+    )
+
+-- the same of a length that is there
+pub block_end : (rest : List ℕ) (n : ℕ) → Some n ≡ block_len rest → n ≤ length rest
+block_end rest n e = let w = block_within rest in rw (sym e) at w
+
+pub closing_end : (quote : ℕ) (rest : List ℕ) (n : ℕ) → Some n ≡ closing_len quote 0 rest → n ≤ length rest
+closing_end quote rest n e = let w = closing_within quote 0 rest in rw (sym e) at w

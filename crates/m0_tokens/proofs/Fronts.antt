@@ -1,0 +1,124 @@
+-- The token at the front is not empty, and within the text.
+use Rattle.std.proofs.Common.{Bool, arith, ◌≡◌, ◌==◌, ◌<◌, ◌≤◌, ◌+◌, ◌-◌, true, false, nat_lt, cond, ℕ, List, [], ◌∷◌, length, ap, refl, take, drop, Result, Ok, Err, Option, Some, None, eqb, sym}
+use Rattle.std.specs.List.{prefix_len, list_all, starts_with}
+use Rattle.std.specs.Result.{IfOk}
+use Rattle.std.specs.Cmp.Lexicographic.{pointwise}
+use Rattle.m0_tokens.specs.Front.{front_of}
+use Rattle.m0_tokens.specs.Comments.{begins_comment, comment_of, block_len}
+use Rattle.m0_tokens.specs.Numbers.{begins_number}
+use Rattle.m0_tokens.specs.Strings.{string_of, closing_len}
+use Rattle.m0_tokens.proofs.Extents.{starts_within, block_within, closing_within, comment_some, line_within, number_within}
+use Rattle.m0_tokens.specs.declared.token.TokenKind.TheVariants.{Comment, Str}
+use Rattle.m0_tokens.specs.declared.token.TokenFault.TheVariants.{UnclosedComment, UnclosedString}
+use Rattle.std.specs.Option.{option_map_or, IfSome}
+use Rattle.m0_tokens.specs.Classes.{is_part, is_space, is_start, is_quote, is_not_yet}
+use Rattle.m0_tokens.specs.Punctuators.{punct_len, is_among, of_four, of_three, of_two, of_one, is_choice_of_number}
+use Rattle.m0_tokens.specs.declared.token.TokenKind.{TokenKind}
+use Rattle.m0_tokens.specs.declared.token.TokenFault.{TokenFault}
+use Rattle.std.proofs.lemmas.List.{length-take, length-drop}
+use Rattle.std.proofs.lemmas.List.Sums.{prefix_len-le-length}
+use Rattle.std.proofs.lemmas.Bool.Decides.{nat_tests, Decides-eqb}
+use borrow.Author.Tests.{ltb-true}
+use Rattle.std.proofs.lemmas.Slice.Eq.{slice_eq-Decides}
+
+-- a run whose first byte is of the class
+pub run_within : (p : ℕ → Bool) (b : ℕ) (rest : List ℕ) → p b ≡ true → (0 < prefix_len p (b ∷ rest)) × (prefix_len p (b ∷ rest) ≤ length (b ∷ rest))
+run_within p b rest h =
+    let e : prefix_len p (b ∷ rest) ≡ 1 + prefix_len p rest = ap (λ x. cond x (1 + prefix_len p rest) 0) h in
+    (omega (arith, e), prefix_len-le-length p (b ∷ rest))
+
+-- what a name begins with may stand in it
+pub start_is_part : (b : ℕ) → is_start b ≡ true → is_part b ≡ true
+start_is_part b h = rw h refl
+
+-- a text among texts of one length has that length
+pub among_length : (n : ℕ) (texts : List (List ℕ)) (text : List ℕ) → list_all (λ t. length t == n) texts ≡ true → is_among texts text ≡ true → length text ≡ n
+among_length n [] text h e = absurd (cc)
+among_length n (t ∷ ts) text h e =
+    let same : pointwise (λ a b. a == b) text t ≡ true → text ≡ t = (slice_eq-Decides Decides-eqb text t _ refl).0 in
+    let others : list_all (λ t. length t == n) ts ≡ true → is_among ts text ≡ true → length text ≡ n = among_length n ts text in
+    grind (arith, nat_tests)
+
+-- a text that begins with one of texts of one length is as long
+pub among_within : (n : ℕ) (texts : List (List ℕ)) (rest : List ℕ) → list_all (λ t. length t == n) texts ≡ true → is_among texts (take n rest) ≡ true → n ≤ length rest
+among_within n texts rest h e = let l = among_length n texts (take n rest) h e in omega (arith, l, length-take n rest)
+
+-- a length chosen by five tests in a row
+pub chosen_length :
+    (four three number two one : Bool) (n : ℕ) →
+    (four ≡ true → 4 ≤ n) → (three ≡ true → 3 ≤ n) → (two ≡ true → 2 ≤ n) → 1 ≤ n →
+    cond four 4 (cond three 3 (cond number 1 (cond two 2 (cond one 1 0)))) ≤ n
+chosen_length true three number two one n f t w o = f refl
+chosen_length false true number two one n f t w o = t refl
+chosen_length false false true two one n f t w o = o
+chosen_length false false false true one n f t w o = w refl
+chosen_length false false false false true n f t w o = o
+chosen_length false false false false false n f t w o = omega arith
+
+-- the punctuator at the front is within the text
+pub punct_within : (b : ℕ) (rest : List ℕ) → punct_len (b ∷ rest) ≤ length (b ∷ rest)
+punct_within b rest =
+    let some : 1 ≤ length (b ∷ rest) = omega arith in
+    chosen_length (is_among of_four (take 4 (b ∷ rest))) (is_among of_three (take 3 (b ∷ rest))) (is_choice_of_number (b ∷ rest))
+    (is_among of_two (take 2 (b ∷ rest)))
+    (is_among of_one (take 1 (b ∷ rest)))
+    (length (b ∷ rest))
+    (among_within 4 of_four (b ∷ rest) refl)
+    (among_within 3 of_three (b ∷ rest) refl)
+    (among_within 2 of_two (b ∷ rest) refl)
+    some
+
+-- a token is not empty, and within the text
+abbrev pub IsWithin : List ℕ → Result (TokenKind × ℕ) TokenFault → Type 0
+IsWithin rest r = IfOk r (λ f. (0 < f.1) × (f.1 ≤ length rest))
+
+-- one kind, or the kinds after it
+pub first_kind : (rest : List ℕ) (test : Bool) (here after : Result (TokenKind × ℕ) TokenFault) → (test ≡ true → IsWithin rest here) → IsWithin rest after → IsWithin rest (cond test here after)
+first_kind rest true here after f g = f refl
+first_kind rest false here after f g = g
+
+-- a length that is found, of a kind, or a fault
+pub found_within : (rest : List ℕ) (kind : TokenKind) (more : ℕ) (x : Option ℕ) (e : TokenFault) → 0 < more → IfSome x (λ n. n + more ≤ length rest) → IsWithin rest (option_map_or (λ n. Ok (kind, n + more)) x (Err e))
+found_within rest kind more None e m h = tt
+found_within rest kind more (Some n) e m h = (omega arith, h)
+
+-- the bound of a length that is found behind some bytes
+pub found_behind : (x : Option ℕ) (k m n : ℕ) → IfSome x (λ i. i ≤ k) → k + m ≤ n → IfSome x (λ i. i + m ≤ n)
+found_behind None k m n h l = tt
+found_behind (Some i) k m n h l = omega arith
+
+pub comment_within : (place b : ℕ) (rest : List ℕ) → begins_comment place (b ∷ rest) ≡ true → IsWithin (b ∷ rest) (comment_of place (b ∷ rest))
+comment_within place b rest h =
+    let block = block_len (drop 2 (b ∷ rest)) in
+    first_kind (b ∷ rest) (starts_with eqb (b ∷ rest) (47 ∷ 42 ∷ [])) _ _
+    (λ t.
+    let l = starts_within (b ∷ rest) (47 ∷ 42 ∷ []) t in
+    found_within (b ∷ rest) Comment 2 block (UnclosedComment place) (omega arith)
+    (found_behind block (length (drop 2 (b ∷ rest))) 2 (length (b ∷ rest)) (block_within (drop 2 (b ∷ rest))) (omega (arith, l, length-drop 2 (b ∷ rest)))))
+    (comment_some place b rest h, line_within (b ∷ rest))
+
+pub string_within : (place b : ℕ) (rest : List ℕ) → IsWithin (b ∷ rest) (string_of place (b ∷ rest))
+string_within place b rest =
+    found_within (b ∷ rest) Str 1 (closing_len b 0 rest) (UnclosedString place) (omega arith)
+    (found_behind (closing_len b 0 rest) (length rest) 1 (length (b ∷ rest)) (closing_within b 0 rest) (omega arith))
+
+-- whatever the front token is
+pub front_within : (place : ℕ) (rest : List ℕ) → IsWithin rest (front_of place rest)
+front_within place [] = tt
+front_within place (b ∷ rest) =
+    first_kind (b ∷ rest) (is_space b) _ _ (run_within is_space b rest)
+    (first_kind (b ∷ rest) (begins_comment place (b ∷ rest)) _ _ (comment_within place b rest)
+    (first_kind (b ∷ rest) (is_start b) _ _ (λ h. run_within is_part b rest (start_is_part b h))
+    (first_kind (b ∷ rest) (begins_number (b ∷ rest)) _ _ (number_within b rest)
+    (first_kind (b ∷ rest) (is_quote b) _ _ (λ _. string_within place b rest)
+    (first_kind (b ∷ rest) (nat_lt 0 (punct_len (b ∷ rest))) _ _ (λ h. (ltb-true 0 (punct_len (b ∷ rest)) h, punct_within b rest))
+    (first_kind (b ∷ rest) (is_not_yet b) _ _ (λ _. tt) tt))))))
+
+-- the token at a place ends behind it, and within the text
+pub front_ends : (place : ℕ) (text : List ℕ) (kind : TokenKind) (n : ℕ) → place ≤ length text → Ok (kind, n) ≡ front_of place (take (length text - place) (drop place text)) → (place < place + n) × (place + n ≤ length text)
+front_ends place text kind n h e =
+    let rest = take (length text - place) (drop place text) in
+    let w = front_within place rest in
+    let l : (0 < n) × (n ≤ length rest) = rw (sym e) at w in
+    let t : length rest ≤ length text - place = omega (arith, length-take (length text - place) (drop place text)) in
+    (omega arith, omega arith)

@@ -1,0 +1,94 @@
+-- The walks of comments and strings, a byte at a time.
+use Rattle.std.proofs.Common.{ℕ, true, false, ◌≡◌, ◌<◌, ◌≤◌, ◌+◌, ◌-◌, List, [], ◌∷◌, length, take, drop, get_or, nat_lt, ◌≢◌, arith, refl, sym, ap, ◌∙◌, cond, eqb, Option, Some, None, suc, zero, add-one}
+use Rattle.std.specs.Option.{option_map}
+use Rattle.std.specs.List.{starts_with}
+use Rattle.std.proofs.Math.Seq.{drop-cons}
+use Rattle.std.proofs.lemmas.List.{take_all, drop-drop, length-drop}
+use Rattle.std.proofs.lemmas.Bool.Decides.{nat_tests}
+use Rattle.m0_tokens.specs.Comments.{begins_line_end, line_len, block_len}
+use Rattle.m0_tokens.specs.Strings.{closing_len, escape_len}
+
+-- what stands at a place, as its first byte and the rest
+pub drop_front : (rest : List ℕ) (at : ℕ) → at < length rest → drop at rest ≡ get_or rest at 0 ∷ drop (at + 1) rest
+drop_front rest at h = drop-cons rest at 0 h ∙ ap (λ n. get_or rest at 0 ∷ drop n rest) (sym (add-one at))
+
+-- lengths that are counted on from a later place
+pub counted_on : (x : Option ℕ) (at more : ℕ) → option_map (λ n. n + at) (option_map (λ n. n + more) x) ≡ option_map (λ n. n + (at + more)) x
+counted_on None at more = refl
+counted_on (Some n) at more = ap Some (omega arith)
+
+pub counted_none : (x : Option ℕ) → option_map (λ n. n + 0) x ≡ x
+counted_none None = refl
+counted_none (Some n) = ap Some (omega arith)
+
+pub counted_from : (x : Option ℕ) (more : ℕ) → option_map (λ n. n + 1) (option_map (λ n. n + more) x) ≡ option_map (λ n. n + suc more) x
+counted_from None more = refl
+counted_from (Some n) more = ap Some (omega arith)
+
+pub counted_twice : (x : Option ℕ) (at more : ℕ) → option_map (λ n. n + at) (option_map (λ n. n + 1) (option_map (λ n. n + more) x)) ≡ option_map (λ n. n + (at + 1 + more)) x
+counted_twice None at more = refl
+counted_twice (Some n) at more = ap Some (omega arith)
+
+-- the slice from a place on is what stands there
+pub slice_from : (rest : List ℕ) (at : ℕ) → take (length rest - at) (drop at rest) ≡ drop at rest
+slice_from rest at = take_all (length rest - at) (drop at rest) (omega (arith, length-drop at rest))
+
+-- a byte that begins no line end is passed
+pub line_more : (rest : List ℕ) (at : ℕ) → at < length rest → begins_line_end (drop at rest) ≡ false → at + line_len (drop at rest) ≡ at + 1 + line_len (drop (at + 1) rest)
+line_more rest at h e =
+    let d = drop_front rest at h in
+    let e' : begins_line_end (get_or rest at 0 ∷ drop (at + 1) rest) ≡ false = rw d at e in
+    let l : line_len (drop at rest) ≡ line_len (drop (at + 1) rest) + 1 = rw d (rw e' refl) in
+    omega arith
+
+-- the line ends where a line end begins
+pub line_stop : (rest : List ℕ) (at : ℕ) → at < length rest → begins_line_end (drop at rest) ≡ true → line_len (drop at rest) ≡ 0
+line_stop rest at h e =
+    let d = drop_front rest at h in
+    let e' : begins_line_end (get_or rest at 0 ∷ drop (at + 1) rest) ≡ true = rw d at e in
+    rw d (rw e' refl)
+
+-- a byte where no `*/` begins is passed
+pub block_more : (rest : List ℕ) (at : ℕ) → at < length rest → starts_with eqb (drop at rest) (42 ∷ 47 ∷ []) ≡ false → option_map (λ n. n + at) (block_len (drop at rest)) ≡ option_map (λ n. n + (at + 1)) (block_len (drop (at + 1) rest))
+block_more rest at h e =
+    let d = drop_front rest at h in
+    let e' : starts_with eqb (get_or rest at 0 ∷ drop (at + 1) rest) (42 ∷ 47 ∷ []) ≡ false = rw d at e in
+    let l : block_len (drop at rest) ≡ option_map (λ n. n + 1) (block_len (drop (at + 1) rest)) = rw d (rw e' refl) in
+    rw l (counted_on (block_len (drop (at + 1) rest)) at 1)
+
+-- the comment ends with `*/`
+pub block_stop : (rest : List ℕ) (at : ℕ) → at < length rest → starts_with eqb (drop at rest) (42 ∷ 47 ∷ []) ≡ true → block_len (drop at rest) ≡ Some 2
+block_stop rest at h e =
+    let d = drop_front rest at h in
+    let e' : starts_with eqb (get_or rest at 0 ∷ drop (at + 1) rest) (42 ∷ 47 ∷ []) ≡ true = rw d at e in
+    rw d (rw e' refl)
+
+-- bytes that a `\` takes are passed
+pub closing_taken : (quote taken : ℕ) (rest : List ℕ) → closing_len quote taken rest ≡ option_map (λ n. n + taken) (closing_len quote 0 (drop taken rest))
+closing_taken quote zero rest = sym (counted_none (closing_len quote 0 rest))
+closing_taken quote (suc taken) [] = refl
+closing_taken quote (suc taken) (b ∷ rest) =
+    let f : suc taken - 1 ≡ taken = omega arith in
+    let s : 1 + taken ≡ suc taken = omega arith in
+    let t : nat_lt 0 (suc taken) ≡ true = grind (arith, nat_tests) in
+    rw (t, f, closing_taken quote taken rest) (counted_from (closing_len quote 0 (drop taken rest)) taken)
+
+-- a byte that is no quote and no line end is passed, with what a `\` takes
+pub closing_pass :
+    (quote : ℕ) (rest : List ℕ) (at b taken : ℕ) →
+    at < length rest → get_or rest at 0 ≡ b → b ≢ quote → b ≢ 10 → b ≢ 13 →
+    taken ≡ cond (eqb b 92) (escape_len (drop (at + 1) rest)) 0 →
+    option_map (λ n. n + at) (closing_len quote 0 (drop at rest)) ≡ option_map (λ n. n + (at + 1 + taken)) (closing_len quote 0 (drop (at + 1 + taken) rest))
+closing_pass quote rest at b taken h g q l r k =
+    let q' : eqb b quote ≡ false = grind (arith, nat_tests) in
+    let l' : eqb b 10 ≡ false = grind (arith, nat_tests) in
+    let r' : eqb b 13 ≡ false = grind (arith, nat_tests) in
+    let d : drop at rest ≡ b ∷ drop (at + 1) rest = drop_front rest at h ∙ ap (λ x. x ∷ drop (at + 1) rest) g in
+    let c : closing_len quote 0 (drop at rest) ≡ option_map (λ n. n + 1) (closing_len quote taken (drop (at + 1) rest)) = rw (d, k) (rw (q', l', r') refl) in
+    let e : closing_len quote taken (drop (at + 1) rest) ≡ option_map (λ n. n + taken) (closing_len quote 0 (drop (at + 1 + taken) rest)) =
+    closing_taken quote taken (drop (at + 1) rest) ∙ ap (λ x. option_map (λ n. n + taken) (closing_len quote 0 x)) (drop-drop taken (at + 1) rest) in
+    rw (c, e) (counted_twice (closing_len quote 0 (drop (at + 1 + taken) rest)) at taken)
+
+-- a `\` takes two bytes at most
+pub escape_few : (rest : List ℕ) → escape_len rest ≤ 2
+escape_few rest = elim (starts_with eqb rest (13 ∷ 10 ∷ [])) as (λ t. cond t 2 1 ≤ 2) [ true ↦ omega arith | false ↦ omega arith ]

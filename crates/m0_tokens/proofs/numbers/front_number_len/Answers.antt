@@ -1,0 +1,10 @@
+-- The digits of another base.
+use Rattle.std.proofs.Common.{refl, sym, ◌≡◌, true}
+use Rattle.m0_tokens.specs.Numbers.{begins_base}
+use Rattle.m0_tokens.proofs.Walks.{slice_from}
+use Rattle.m0_tokens.proofs.numbers.front_number_len.Goals as goal
+
+pub returns-then-begins_base_at : goal.returns-then-begins_base_at
+returns-then-begins_base_at c =
+    let b : begins_base c.args.rest.now ≡ true = sym c.if-begins_base_at.ensures in
+    rw b (rw (c.part_len.ensures.value, slice_from c.args.rest.now 2) refl)

@@ -1,0 +1,10 @@
+pub mod Classes
+pub mod Punctuators
+pub mod Comments
+pub mod Numbers
+pub mod Strings
+pub mod Front
+pub mod Brackets
+pub mod Tokens
+pub mod Deps
+pub mod Transform

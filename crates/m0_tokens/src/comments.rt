@@ -1,0 +1,66 @@
+//! Comments.
+ghost use Rattle.std.specs.Prelude.{◌≡◌};
+ghost use Rattle.m0_tokens.specs.Comments.{begins_comment, begins_line_end, line_len, block_len, comment_of};
+
+use crate::classes::byte_at;
+use crate::{TokenFault, TokenKind};
+
+/// Whether a comment begins at the front, which stands at `place` in the text.
+pub(crate) fn begins_comment_at(place: u32, rest: &[u8]) -> bool
+    ensures { result ≡ begins_comment place rest.now }
+{
+    match [byte_at(rest, 0), byte_at(rest, 1)] {
+        [b'/', b'/' | b'*'] => true,
+        [b'#', b'!'] => place == 0,
+        _ => false,
+    }
+}
+
+/// Whether a line end is at the front: a line feed, a carriage return, U+2028 or U+2029.
+fn begins_line_end_at(rest: &[u8]) -> bool
+    ensures { result ≡ begins_line_end rest.now }
+{
+    match byte_at(rest, 0) {
+        b'\n' | b'\r' => true,
+        0xE2 => byte_at(rest, 1) == 0x80 && (byte_at(rest, 2) == 0xA8 || byte_at(rest, 2) == 0xA9),
+        _ => false,
+    }
+}
+
+/// The length up to before the next line end, or to the end.
+fn front_line_len(rest: &[u8]) -> usize
+    ensures { result ≡ line_len rest.now }
+{
+    let mut at = 0;
+    while at < rest.len() && !begins_line_end_at(&rest[at..]) {
+        at += 1;
+    }
+    at
+}
+
+/// The length through the first `*/`, if there is one.
+fn front_block_len(rest: &[u8]) -> Option<usize>
+    ensures { result ≡ block_len rest.now }
+{
+    let mut at = 0;
+    while at < rest.len() {
+        if rest[at..].starts_with(b"*/") {
+            return Some(at + 2);
+        }
+        at += 1;
+    }
+    None
+}
+
+/// The comment at the front, which stands at `place` in the text.
+pub(crate) fn comment(place: u32, rest: &[u8]) -> Result<(TokenKind, usize), TokenFault>
+    ensures { result ≡ comment_of place rest.now }
+{
+    if rest.starts_with(b"/*") {
+        return match front_block_len(&rest[2..]) {
+            Some(len) => Ok((TokenKind::Comment, len + 2)),
+            None => Err(TokenFault::UnclosedComment { place }),
+        };
+    }
+    Ok((TokenKind::Comment, front_line_len(rest)))
+}

@@ -1,0 +1,42 @@
+//! What a source is by its path, and what can be wrong with one.
+use thiserror::Error;
+
+/// What a source is by the extension of its path.
+#[derive(Clone, Copy, Debug, PartialEq, Eq)]
+pub enum PathKind {
+    /// A JavaScript file: every source whose extension isn't json.
+    Script,
+    /// A JSON file.
+    Json,
+}
+
+/// What breaks the lexical grammar.
+#[derive(Clone, Copy, Debug, PartialEq, Eq, Error)]
+pub enum SyntaxFault {
+    #[error("unclosed string")]
+    UnclosedString,
+    #[error("unclosed comment")]
+    UnclosedComment,
+    #[error("bad character")]
+    BadCharacter,
+    #[error("unbalanced bracket")]
+    UnbalancedBracket,
+}
+
+/// Why a source is refused. Places are byte offsets from 0.
+#[derive(Clone, Copy, Debug, Error)]
+pub enum SourceFault {
+    /// The place of the first byte that no well-formed text continues.
+    #[error("not UTF-8 at {place}")]
+    NotUtf8 { place: u32 },
+    #[error("{why} at {place}")]
+    Syntax { place: u32, why: SyntaxFault },
+    /// The source has a form that is not supported yet.
+    #[error("not built yet at {place}")]
+    NotYet { place: u32 },
+    /// More than 4,096 distinct dependencies.
+    #[error("more than 4096 dependencies")]
+    TooManyDeps,
+    #[error("out of memory")]
+    NoMemory,
+}

@@ -1,0 +1,47 @@
+//! The tokens of a text, in a profile of the lexical grammar of ECMAScript.
+ghost use Rattle.std.specs.Prelude.{◌≡◌, ◌≤◌, ◌<◌, ◌⊎◌, length, IfOk, Err};
+ghost use Rattle.m0_tokens.specs.Tokens.{Covers, token_at, tokens_of};
+
+use crate::brackets::Openers;
+use crate::front::front_token;
+use crate::{Token, TokenFault, TokenList};
+use std::alloc::Global;
+
+/// The token at the place `at`, which is before the end.
+fn token_in(bytes: &[u8], at: usize) -> Result<Token, TokenFault>
+    requires inside { at < length bytes.now }
+    requires short { length bytes.now ≤ 16777216 }
+    ensures exact { result ≡ token_at bytes.now at }
+    ensures starts { IfOk result (λ t. t.start ≡ at) }
+    ensures ends { IfOk result (λ t. (at < t.end) × (t.end ≤ length bytes.now)) }
+{
+    let start = at as u32;
+    let (kind, len) = front_token(start, &bytes[at..])?;
+    let end = (at + len) as u32;
+    Ok(Token { kind, start, end })
+}
+
+/// The tokens of a text of at most 16 MiB, from its first byte to its last. Refused with the first
+/// fault from the front on, and for want of memory. Takes time linear in the text.
+pub fn tokens(alloc: Global, text: &str) -> Result<TokenList, TokenFault>
+    requires { length text.now ≤ 16777216 }
+    ensures exact { (result ≡ Err TokenFault.NoMemory) ⊎ (result ≡ tokens_of text.now) }
+    ensures covers { IfOk result (λ ts. Covers 0 text.now ts) }
+{
+    let bytes = text.as_bytes();
+    let mut found = Vec::new(alloc);
+    let mut openers = Openers::new(alloc);
+    let mut at = 0;
+    while at < bytes.len() {
+        let token = token_in(bytes, at)?;
+        openers.read(bytes[at], token.start)?;
+        if found.push(token).is_err() {
+            return Err(TokenFault::NoMemory);
+        }
+        at = token.end as usize;
+    }
+    if let Some(place) = openers.innermost() {
+        return Err(TokenFault::Unbalanced { place });
+    }
+    Ok(TokenList::from_vec(found))
+}

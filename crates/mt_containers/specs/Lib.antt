@@ -1,0 +1,4 @@
+pub mod Texts
+pub mod formers
+pub mod Walks
+pub mod Explorations

@@ -1,0 +1,4 @@
+pub mod Numbers
+pub mod SimpleStrings
+pub mod Strings
+pub mod Uses

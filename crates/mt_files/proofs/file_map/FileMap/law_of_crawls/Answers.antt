@@ -1,5 +1,0 @@
-use Rattle.mt_files.proofs.Laws.{kept}
-use Rattle.mt_files.proofs.file_map.FileMap.law_of_crawls.Goals as goal
-
-pub returns : goal.returns
-returns c = record { kept = kept }

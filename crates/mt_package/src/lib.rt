@@ -1,0 +1,6 @@
+//! How bundles are made.
+#![tactic(auto)]
+
+mod options;
+
+pub use options::Options;

@@ -1,0 +1,5 @@
+use Rattle.mt_revision.proofs.Texts.{content_bundle, content_held}
+use Rattle.mt_revision.proofs.law.law_of_contents.Goals as goal
+
+pub returns : goal.returns
+returns c = record { held = content_held; bundle = content_bundle }

@@ -1,0 +1,4 @@
+pub mod Bodies
+pub mod Edited
+pub mod Outputs
+pub mod Transformed

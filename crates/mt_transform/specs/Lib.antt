@@ -1,0 +1,3 @@
+pub mod OutputValues
+pub mod Outputs
+pub mod Readings

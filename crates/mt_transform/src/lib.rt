@@ -1,0 +1,13 @@
+//! What a source becomes in a bundle.
+#![tactic(auto)]
+
+mod body;
+mod law;
+mod output;
+mod reading;
+mod refusal;
+mod transformation;
+
+pub use law::law_of_bodies;
+pub use output::{Name, NameList, Output};
+pub use transformation::transform;

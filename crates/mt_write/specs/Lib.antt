@@ -1,0 +1,4 @@
+pub mod Modules
+pub mod Bundle
+pub mod Buffered
+pub mod Pieces
