@@ -21,7 +21,13 @@ fn a_missing_entry_and_too_many_modules_have_no_place(rt: HostRuntime) -> Result
     let path = Path::parse(rt.alloc(), "/index.js")?;
     let missing = BuildFault::EntryMissing { path };
     assert!(rt; is_told(rt.alloc(), missing, "entry /index.js is not a source file")?);
-    assert!(rt; is_told(rt.alloc(), BuildFault::TooManyModules, "more than 65536 modules")?);
+    assert!(rt;
+        is_told(
+            rt.alloc(),
+            BuildFault::TooManyModules,
+            "more than 65536 modules"
+        )?
+    );
     assert!(rt; is_told(rt.alloc(), BuildFault::NoMemory, "out of memory")?);
     Ok(())
 }
@@ -32,7 +38,10 @@ fn the_refusal_of_a_source_has_its_path_and_place(rt: HostRuntime) -> Result<(),
         (SourceFault::NotUtf8 { place: 3 }, "/a.js:3: not UTF-8"),
         (SourceFault::NotYet { place: 6 }, "/a.js:6: not built yet"),
         (SourceFault::Json, "/a.js:0: not JSON"),
-        (SourceFault::TooManyDeps, "/a.js:0: more than 4096 dependencies"),
+        (
+            SourceFault::TooManyDeps,
+            "/a.js:0: more than 4096 dependencies",
+        ),
         (SourceFault::NoMemory, "out of memory"),
     ] {
         assert!(rt; is_source_told(rt.alloc(), fault, words)?, "{words}");
@@ -43,12 +52,27 @@ fn the_refusal_of_a_source_has_its_path_and_place(rt: HostRuntime) -> Result<(),
 #[test]
 fn what_breaks_the_grammar_is_told(rt: HostRuntime) -> Result<(), Fail> {
     for (why, words) in [
-        (SyntaxFault::UnclosedString, "/a.js:17: syntax: unclosed string"),
-        (SyntaxFault::UnclosedComment, "/a.js:17: syntax: unclosed comment"),
+        (
+            SyntaxFault::UnclosedString,
+            "/a.js:17: syntax: unclosed string",
+        ),
+        (
+            SyntaxFault::UnclosedComment,
+            "/a.js:17: syntax: unclosed comment",
+        ),
         (SyntaxFault::BadCharacter, "/a.js:17: syntax: bad character"),
-        (SyntaxFault::UnbalancedBracket, "/a.js:17: syntax: unbalanced bracket"),
-        (SyntaxFault::UnclosedTemplate, "/a.js:17: syntax: unclosed template"),
-        (SyntaxFault::UnclosedRegex, "/a.js:17: syntax: unclosed regular expression"),
+        (
+            SyntaxFault::UnbalancedBracket,
+            "/a.js:17: syntax: unbalanced bracket",
+        ),
+        (
+            SyntaxFault::UnclosedTemplate,
+            "/a.js:17: syntax: unclosed template",
+        ),
+        (
+            SyntaxFault::UnclosedRegex,
+            "/a.js:17: syntax: unclosed regular expression",
+        ),
         (SyntaxFault::ImportForm, "/a.js:17: syntax: import form"),
         (SyntaxFault::ExportForm, "/a.js:17: syntax: export form"),
     ] {
@@ -62,8 +86,16 @@ fn what_breaks_the_grammar_is_told(rt: HostRuntime) -> Result<(), Fail> {
 fn a_name_that_leads_nowhere_is_quoted(rt: HostRuntime) -> Result<(), Fail> {
     for (place, name, words) in [
         (8, "./x.js", "/index.js:8: cannot resolve \"./x.js\""),
-        (0, "a\"b\\c\u{1}é", "/index.js:0: cannot resolve \"a\\\"b\\\\c\\x01é\""),
-        (4294967295, "\u{7f}", "/index.js:4294967295: cannot resolve \"\\x7f\""),
+        (
+            0,
+            "a\"b\\c\u{1}é",
+            "/index.js:0: cannot resolve \"a\\\"b\\\\c\\x01é\"",
+        ),
+        (
+            4294967295,
+            "\u{7f}",
+            "/index.js:4294967295: cannot resolve \"\\x7f\"",
+        ),
     ] {
         let path = Path::parse(rt.alloc(), "/index.js")?;
         let name = Text::from_str(rt.alloc(), name)?;

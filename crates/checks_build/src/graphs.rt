@@ -133,16 +133,25 @@ fn a_module_may_require_itself(rt: HostRuntime) -> Result<(), Fail> {
 #[test]
 fn faults_come_by_path_and_place(rt: HostRuntime) -> Result<(), Fail> {
     let sources = [
-        ("/index.js", "require('./z.js');require('./a.js');require('y')"),
+        (
+            "/index.js",
+            "require('./z.js');require('./a.js');require('y')",
+        ),
         ("/z.js", "'"),
-        ("/a.js", "require('./y.js');require('./x.js');require('./y.js')"),
+        (
+            "/a.js",
+            "require('./y.js');require('./x.js');require('./y.js')",
+        ),
     ];
     let files = snapshot(rt.alloc(), &sources)?;
     let first = first_fault(rt.alloc(), &files, "/index.js")?;
     assert!(rt; first.as_str() == "/a.js:8: cannot resolve \"./y.js\"");
-    let lines = "/a.js:8: cannot resolve \"./y.js\"\n/a.js:26: cannot resolve \"./x.js\"\n/index.js:44: cannot resolve \"y\"\n/z.js:0: syntax: unclosed string\n";
+    let lines =
+        "/a.js:8: cannot resolve \"./y.js\"\n/a.js:26: cannot resolve \"./x.js\"\n/index.js:44: cannot resolve \"y\"\n/z.js:0: syntax: unclosed string\n";
     assert!(rt; all_faults(rt.alloc(), &files, "/index.js")?.as_str() == lines);
-    assert!(rt; first_fault(rt.alloc(), &files, "/z.js")?.as_str() == "/z.js:0: syntax: unclosed string");
+    assert!(rt;
+        first_fault(rt.alloc(), &files, "/z.js")?.as_str() == "/z.js:0: syntax: unclosed string"
+    );
     Ok(())
 }
 
@@ -210,7 +219,9 @@ fn a_build_has_at_most_65536_modules(rt: HostRuntime) -> Result<(), Fail> {
     put(rt.alloc(), &mut files, "/new.js", "'")?;
     let many = "more than 65536 modules";
     assert!(rt; first_fault(rt.alloc(), &files, "/index.js")?.as_str() == many);
-    assert!(rt; all_faults(rt.alloc(), &files, "/index.js")?.as_str() == "more than 65536 modules\n");
+    assert!(rt;
+        all_faults(rt.alloc(), &files, "/index.js")?.as_str() == "more than 65536 modules\n"
+    );
     Ok(())
 }
 

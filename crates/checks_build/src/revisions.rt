@@ -40,7 +40,8 @@ global.__exportAll=function(t,e){for(var k in e)if(k!=="default")t[k]=e[k];};
 "#;
 
 /// The modules of `two_modules` in a bundle for development, and the line that starts the first.
-const MODULES: &[u8] = br#"__d(function (global, require, importDefault, importAll, module, exports, dependencyMap) {
+const MODULES: &[u8] =
+    br#"__d(function (global, require, importDefault, importAll, module, exports, dependencyMap) {
 z
 },0,[1],"z.js");
 __d(function (global, require, importDefault, importAll, module, exports, dependencyMap) {
@@ -109,7 +110,11 @@ fn entries_come_first_and_numbers_are_kept(rt: HostRuntime) -> Result<(), Fail> 
     assert!(rt; number_of(rt.alloc(), &second, "/a.js")? == Some(1));
     assert!(rt; number_of(rt.alloc(), &second, "/b.js")? == Some(2));
     assert!(rt; number_of(rt.alloc(), &second, "/c.js")?.is_none());
-    assert!(rt; second.path_of(2).is_some_and(|path| path.as_str() == "/b.js"));
+    assert!(rt;
+        second
+            .path_of(2)
+            .is_some_and(|path| path.as_str() == "/b.js")
+    );
     assert!(rt; second.path_of(3).is_none());
     law_of_numberings();
     Ok(())
@@ -136,12 +141,7 @@ fn slots_of(alloc: Global, slots: &[Slot]) -> Result<List<Slot>, AllocError> {
 }
 
 /// A module of this source at this path, with these slots.
-fn module(
-    alloc: Global,
-    text: &str,
-    source: &str,
-    slots: &[Slot],
-) -> Result<Shared<Module>, Fail> {
+fn module(alloc: Global, text: &str, source: &str, slots: &[Slot]) -> Result<Shared<Module>, Fail> {
     let module = Module {
         path: Path::parse(alloc, text)?,
         output: Shared::new(alloc, output_of(alloc, source)?)?,
@@ -179,7 +179,11 @@ fn a_revision_has_its_parts(rt: HostRuntime) -> Result<(), Fail> {
     assert!(rt; first.entries() == [0].as_slice());
     assert!(rt; first.touched() == [0, 1].as_slice());
     assert!(rt; first.len() == 2 && !first.is_empty());
-    assert!(rt; first.module(1).is_some_and(|kept| kept.path.as_str() == "/a.js"));
+    assert!(rt;
+        first
+            .module(1)
+            .is_some_and(|kept| kept.path.as_str() == "/a.js")
+    );
     assert!(rt; first.module(2).is_none());
     assert!(rt; first.at_least(1) == Some(1));
     assert!(rt; first.at_least(2).is_none());
@@ -191,12 +195,27 @@ fn a_revision_has_its_parts(rt: HostRuntime) -> Result<(), Fail> {
 fn only_what_differs_is_touched(rt: HostRuntime) -> Result<(), Fail> {
     let first = revision(rt.alloc(), None, true, two_modules(rt.alloc(), 1, "a")?)?;
     assert!(rt; first.number() == 1 && first.dev());
-    let same = revision(rt.alloc(), Some(&first), true, two_modules(rt.alloc(), 1, "a")?)?;
+    let same = revision(
+        rt.alloc(),
+        Some(&first),
+        true,
+        two_modules(rt.alloc(), 1, "a")?,
+    )?;
     assert_eq!(rt; same.number(), 2);
     assert!(rt; same.touched().is_empty());
-    let other = revision(rt.alloc(), Some(&first), true, two_modules(rt.alloc(), 1, "b")?)?;
+    let other = revision(
+        rt.alloc(),
+        Some(&first),
+        true,
+        two_modules(rt.alloc(), 1, "b")?,
+    )?;
     assert!(rt; other.touched() == [1].as_slice());
-    let led = revision(rt.alloc(), Some(&first), true, two_modules(rt.alloc(), 2, "a")?)?;
+    let led = revision(
+        rt.alloc(),
+        Some(&first),
+        true,
+        two_modules(rt.alloc(), 2, "a")?,
+    )?;
     assert!(rt; led.touched() == [0].as_slice());
     law_of_logs();
     Ok(())
@@ -276,7 +295,11 @@ fn the_texts_of_modules_are_held(rt: HostRuntime) -> Result<(), Fail> {
     assert!(rt; texts.get(0).is_none() && texts.at_least(0) == Some(1));
     texts.insert(1, Bytes::from_slice(rt.alloc(), b"x")?)?;
     assert!(rt; texts.len() == 1);
-    assert!(rt; texts.remove(1).is_some_and(|text| text.as_slice() == b"x".as_slice()));
+    assert!(rt;
+        texts
+            .remove(1)
+            .is_some_and(|text| text.as_slice() == b"x".as_slice())
+    );
     assert!(rt; texts.at_least(0).is_none());
     assert!(rt; HeldMap::new(rt.alloc()).is_empty());
     Ok(())
@@ -298,9 +321,7 @@ fn built(
     if numbering.len() > 100 || !options.dev {
         return Ok(None);
     }
-    Ok(Some(revision_of_graph(
-        alloc, before, &options, changes, numbering, &entries, graph,
-    )?))
+    Ok(Some(revision_of_graph(alloc, before, &options, changes, numbering, &entries, graph)?))
 }
 
 #[test]
@@ -308,7 +329,12 @@ fn a_graph_becomes_a_revision(rt: HostRuntime) -> Result<(), Fail> {
     let mut files = FileMap::new(rt.alloc());
     put(rt.alloc(), &mut files, "/a.js", "")?;
     put(rt.alloc(), &mut files, "/b.js", "")?;
-    put(rt.alloc(), &mut files, "/z.js", "require('./b.js');require('./a.js');require('./b.js')")?;
+    put(
+        rt.alloc(),
+        &mut files,
+        "/z.js",
+        "require('./b.js');require('./a.js');require('./b.js')",
+    )?;
     let members = set_of(rt.alloc(), &["/a.js", "/b.js", "/z.js"])?;
     let numbering = extended(rt.alloc(), &Numbering::new(rt.alloc()), &members)?;
     let made = graph(rt.alloc(), &files)?;
@@ -319,9 +345,8 @@ fn a_graph_becomes_a_revision(rt: HostRuntime) -> Result<(), Fail> {
     assert!(rt; first.entries() == [0].as_slice());
     let slots = [Slot::Module(2), Slot::Module(1)];
     assert!(rt;
-        first
-            .module(0)
-            .is_some_and(|kept| kept.path.as_str() == "/z.js" && kept.slots.as_slice() == slots.as_slice())
+        first.module(0).is_some_and(|kept| kept.path.as_str() == "/z.js"
+            && kept.slots.as_slice() == slots.as_slice())
     );
     put(rt.alloc(), &mut files, "/z.js", "require('./a.js')")?;
     let made = graph(rt.alloc(), &files)?;

@@ -67,9 +67,9 @@ module _ {X : Type 0} where
   remove_less : (m : FinMap (slice_cmp nat_cmp) X) (p q : List ℕ) → is_some (get (remove m p) q) ≡ true → is_some (get m q) ≡ true
   remove_less m p q h = less (eq_by_cmp (slice_cmp nat_cmp) q p) (get m q) (sym (ap is_some (get-remove nat_list_cmp_total m p q)) ∙ h)
     where
-    less : (b : Bool) (o : Option X) → is_some (cond b None o) ≡ true → is_some o ≡ true
-    less true o h = absurd (false≢true h)
-    less false o h = h
+      less : (b : Bool) (o : Option X) → is_some (cond b None o) ≡ true → is_some o ≡ true
+      less true o h = absurd (false≢true h)
+      less false o h = h
 
   insert_more : (m : FinMap (slice_cmp nat_cmp) X) (p q : List ℕ) (x : X) → is_some (get m q) ≡ true → is_some (get (insert m p x) q) ≡ true
   insert_more m p q x h = elim (apart_or_same q p) [
@@ -207,9 +207,9 @@ explored_same {K} {X} step starts row rows waiting other to from h = record {
   followed = λ key next r s. known next (h.followed key next r s);
 }
   where
-  known : (key : K) → IsKnown rows waiting key → IsKnown rows other key
-  known key (inl h) = inl h
-  known key (inr h) = inr (to key h)
+    known : (key : K) → IsKnown rows waiting key → IsKnown rows other key
+    known key (inl h) = inl h
+    known key (inr h) = inr (to key h)
 
 module _ (options : Options) (files : Snapshot) (seeds : List (List ℕ)) (known : Known) where
   -- where a traversal stands
@@ -260,17 +260,17 @@ module _ (options : Options) (files : Snapshot) (seeds : List (List ℕ)) (known
           | inr apart ↦ inr (has_key_at after q (all_more p known visits (remove waiting p) links q (ap is_some (remove_apart waiting p q apart) ∙ key_has waiting q w)))
         ];
         followed = λ q next d s.
-          let t = contains_filter (λ z. not (contains_key known z)) (files_of links) next (subst (λ qs. Contains qs next) steps_are (subst (λ z. Contains (step z) next) (sym (one q d)) s)) in
-          elim (all_files p known visits (remove waiting p) links next t.0) [
-            | inl w ↦ inr (has_key_at after next w)
-            | inr rest ↦ elim rest [
-              | inl same ↦ inl (ap is_some (ap (get rows) same ∙ insert_here visits p visit))
-              | inr other ↦ elim other [
-                | inl k ↦ absurd (false≢true (sym (not-true (contains_key known next) t.1) ∙ k))
-                | inr v ↦ inl (insert_more visits p next visit v)
+            let t = contains_filter (λ z. not (contains_key known z)) (files_of links) next (subst (λ qs. Contains qs next) steps_are (subst (λ z. Contains (step z) next) (sym (one q d)) s)) in
+            elim (all_files p known visits (remove waiting p) links next t.0) [
+              | inl w ↦ inr (has_key_at after next w)
+              | inr rest ↦ elim rest [
+                | inl same ↦ inl (ap is_some (ap (get rows) same ∙ insert_here visits p visit))
+                | inr other ↦ elim other [
+                  | inl k ↦ absurd (false≢true (sym (not-true (contains_key known next) t.1) ∙ k))
+                  | inr v ↦ inl (insert_more visits p next visit v)
+                ]
               ]
-            ]
-          ];
+            ];
       })
 
   module _ (sources : (q : List ℕ) → Contains seeds q → has_source files q ≡ true) where
@@ -285,12 +285,12 @@ module _ (options : Options) (files : Snapshot) (seeds : List (List ℕ)) (known
         (explored_alone options files known seeds sources) (all_explored options files known seeds sources)
         (subst (IsExplored (unknown_edges options files known) seeds (visit_at options files) (get visits)) no_keys h)
       where
-      no_keys : keys waiting ≡ []
-      no_keys = nothing (keys waiting) (λ q k. absurd (false≢true (ap is_some (sym (get-empty {X = Unit {0}} (slice_cmp nat_cmp) q) ∙ ap (λ w. get w q) (sym none)) ∙ key_has waiting q k)))
-        where
-        nothing : (ks : List (List ℕ)) → ((q : List ℕ) → Contains ks q → ⊥) → ks ≡ []
-        nothing [] h = refl
-        nothing (k ∷ ks) h = absurd (h k (contains_head k ks))
+        no_keys : keys waiting ≡ []
+        no_keys = nothing (keys waiting) (λ q k. absurd (false≢true (ap is_some (sym (get-empty {X = Unit {0}} (slice_cmp nat_cmp) q) ∙ ap (λ w. get w q) (sym none)) ∙ key_has waiting q k)))
+          where
+            nothing : (ks : List (List ℕ)) → ((q : List ℕ) → Contains ks q → ⊥) → ks ≡ []
+            nothing [] h = refl
+            nothing (k ∷ ks) h = absurd (h k (contains_head k ks))
 
     -- ---- what was visited, as what was found
 

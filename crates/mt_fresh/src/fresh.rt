@@ -20,11 +20,7 @@ use mt_path::{Path, PathList, PathSet};
 use std::alloc::{AllocError, Global};
 
 /// The entries that are sources.
-fn sources_among(
-    alloc: Global,
-    files: &FileMap,
-    entries: &[Path],
-) -> Result<PathList, AllocError>
+fn sources_among(alloc: Global, files: &FileMap, entries: &[Path]) -> Result<PathList, AllocError>
     ensures exact { IfOk result (λ sources. sources ≡ filter (has_source files.now) entries.now) }
 {
     let mut sources = PathList::new(alloc);
@@ -47,7 +43,13 @@ fn explore_entries(
     ensures ascending { IfOk result (λ founds. IsStrictlySortedBy (slice_cmp nat_cmp) (paths_of founds)) }
 {
     let sources = sources_among(alloc, files, entries)?;
-    Traversal.explore(alloc, files, options, sources.as_slice(), &PathSet::new(alloc))
+    Traversal.explore(
+        alloc,
+        files,
+        options,
+        sources.as_slice(),
+        &PathSet::new(alloc),
+    )
 }
 
 /// The fresh graph of a snapshot from its entries, or its first fault: too many modules, or else the fault with the

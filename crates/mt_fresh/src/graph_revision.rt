@@ -32,11 +32,7 @@ fn number_or_len(numbering: &Numbering, path: &Path) -> u32
 }
 
 /// The numbers of paths.
-fn numbers_of(
-    alloc: Global,
-    numbering: &Numbering,
-    paths: &[Path],
-) -> Result<List<u32>, AllocError>
+fn numbers_of(alloc: Global, numbering: &Numbering, paths: &[Path]) -> Result<List<u32>, AllocError>
     ensures numbers { IfOk result (λ numbers. numbers ≡ numbers_of numbering.now paths.now) }
 {
     let mut numbers = List::new(alloc);

@@ -57,14 +57,7 @@ fn resolve_names(
 {
     let mut links = LinkList::new(alloc);
     for name in names.as_slice() {
-        links.push(resolve(
-            alloc,
-            files,
-            options,
-            path,
-            name.text.as_str(),
-            name.kind,
-        )?)?;
+        links.push(resolve(alloc, files, options, path, name.text.as_str(), name.kind)?)?;
     }
     Ok(links)
 }
@@ -105,10 +98,7 @@ fn is_new_target(
 ) -> bool
     ensures exact { result ≡ is_new origin.now known.now visits.now waiting.now path.now }
 {
-    path != origin
-        && !known.contains(path)
-        && !visits.contains(path)
-        && !waiting.contains(path)
+    path != origin && !known.contains(path) && !visits.contains(path) && !waiting.contains(path)
 }
 
 /// Lets the source to which a link of the module `origin` leads wait, where it is new.

@@ -119,14 +119,14 @@ module _ (options : Options) (files : Snapshot) (known : Known) (seeds : List (L
   whole_ends : (q : List ℕ) → Contains (paths_of (explored options files seeds known)) q ↔ IsReached (steps_in known (explored options files seeds known)) seeds q
   whole_ends q = (
     λ h.
-      (reached_least step seeds BothReached both_start
-      (λ p next k s. both_by p next k s (subst (λ qs. Contains qs next) (sym (same_steps p (explored_all p k.0))) s))
-      q (explored_alone q (subst (λ ps. Contains ps q) explored_has_paths h))).1,
+        (reached_least step seeds BothReached both_start
+        (λ p next k s. both_by p next k s (subst (λ qs. Contains qs next) (sym (same_steps p (explored_all p k.0))) s))
+        q (explored_alone q (subst (λ ps. Contains ps q) explored_has_paths h))).1,
     λ h.
-      subst (λ ps. Contains ps q) (sym explored_has_paths)
-      (explored_all q (reached_least (steps_in known (explored options files seeds known)) seeds BothReached both_start
-      (λ p next k t. both_by p next k (subst (λ qs. Contains qs next) (same_steps p (explored_all p k.0)) t) t)
-      q h).0),
+        subst (λ ps. Contains ps q) (sym explored_has_paths)
+        (explored_all q (reached_least (steps_in known (explored options files seeds known)) seeds BothReached both_start
+        (λ p next k t. both_by p next k (subst (λ qs. Contains qs next) (same_steps p (explored_all p k.0)) t) t)
+        q h).0),
   )
 
   pub explored_whole : IsExploration options files seeds known (explored options files seeds known)

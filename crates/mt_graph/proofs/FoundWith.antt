@@ -43,9 +43,9 @@ pub first_alone : (f : Found) (fs : List Found) → IsStrictlySortedBy (slice_cm
 unfolding IsStrictlySortedBy
 first_alone f fs h = none_at (found_with fs f.path) (sym (has_found fs f.path) ∙ above_apart f.path (paths_of fs) h.0)
   where
-  none_at : (o : Option Found) → is_some o ≡ false → o ≡ None
-  none_at None e = refl
-  none_at (Some x) e = cc
+    none_at : (o : Option Found) → is_some o ≡ false → o ≡ None
+    none_at None e = refl
+    none_at (Some x) e = cc
 
 pub rest_ascending : (f : Found) (fs : List Found) → IsStrictlySortedBy (slice_cmp nat_cmp) (paths_of (f ∷ fs)) → IsStrictlySortedBy (slice_cmp nat_cmp) (paths_of fs)
 unfolding IsStrictlySortedBy

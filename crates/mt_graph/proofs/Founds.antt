@@ -28,9 +28,9 @@ module _ (options : Options) (files : Snapshot) where
   pub found_there : (p : List ℕ) → has_source files p ≡ true → (source : List ℕ) × ((source_at files p ≡ Some source) × (found_in options files p ≡ Some (found_at options files p source)))
   found_there p h = by (source_at files p) refl h
     where
-    by : (s : Option (List ℕ)) → source_at files p ≡ s → is_some s ≡ true → (source : List ℕ) × ((source_at files p ≡ Some source) × (found_in options files p ≡ Some (found_at options files p source)))
-    by None e k = absurd (false≢true k)
-    by (Some source) e k = (source, (e, ap (option_map (found_at options files p)) e))
+      by : (s : Option (List ℕ)) → source_at files p ≡ s → is_some s ≡ true → (source : List ℕ) × ((source_at files p ≡ Some source) × (found_in options files p ≡ Some (found_at options files p source)))
+      by None e k = absurd (false≢true k)
+      by (Some source) e k = (source, (e, ap (option_map (found_at options files p)) e))
 
   -- what was found at sources has their paths
   pub paths_found : (ps : List (List ℕ)) → ((q : List ℕ) → Contains ps q → has_source files q ≡ true) → paths_of (filter_map (found_in options files) ps) ≡ ps

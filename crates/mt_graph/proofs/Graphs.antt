@@ -56,15 +56,14 @@ module _ (options : Options) (files : Snapshot) where
   HasNode p = (node : Node) × ((node_at options files p ≡ Some node) × (files_of node.links ≡ edges options files p))
 
   clean_made : (p source : List ℕ) (t : Result Transformed SourceFault) → source_at files p ≡ Some source → transformed options.strip (kind_of p) source ≡ t → made_faults options files p t ≡ [] → HasNode p
-  clean_made p source (Ok t) e h none =
-      (
-        record { output = output_from options p source t; links = (found_at options files p source).links },
-        (
-          ap (λ s. option_and_then node_of (option_map (found_at options files p) s)) e
+  clean_made p source (Ok t) e h none = (
+    record { output = output_from options p source t; links = (found_at options files p source).links },
+    (
+      ap (λ s. option_and_then node_of (option_map (found_at options files p) s)) e
           ∙ ap (λ u. option_map (with_links (found_at options files p source).links) (result_ok (output_made options.strip (kind_of p) source u))) h,
-          links_lead options files p source e,
-        ),
-      )
+      links_lead options files p source e,
+    ),
+  )
   clean_made p source (Err fault) e h none = cc
 
   clean_source : (p : List ℕ) (s : Option (List ℕ)) → source_at files p ≡ s → option_map_or (made_faults options files p) (option_map (transformed options.strip (kind_of p)) s) (EntryMissing p ∷ []) ≡ [] → HasNode p

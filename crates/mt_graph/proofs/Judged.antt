@@ -91,12 +91,12 @@ module _ (options : Options) (files : Snapshot) where
   nodes_here [] = refl
   nodes_here (p ∷ ps) = one (source_at files p) (nodes_here ps)
     where
-    one : (s : Option (List ℕ))
-        → filter_map (λ (f : Found). option_map (under f.path) (node_of f)) (filter_map (found_in options files) ps) ≡ filter_map (λ p. option_map (under p) (node_at options files p)) ps
-        → filter_map (λ (f : Found). option_map (under f.path) (node_of f)) (cons_option (option_map (found_at options files p) s) (filter_map (found_in options files) ps))
+      one : (s : Option (List ℕ))
+          → filter_map (λ (f : Found). option_map (under f.path) (node_of f)) (filter_map (found_in options files) ps) ≡ filter_map (λ p. option_map (under p) (node_at options files p)) ps
+          → filter_map (λ (f : Found). option_map (under f.path) (node_of f)) (cons_option (option_map (found_at options files p) s) (filter_map (found_in options files) ps))
           ≡ cons_option (option_map (under p) (option_and_then node_of (option_map (found_at options files p) s))) (filter_map (λ p. option_map (under p) (node_at options files p)) ps)
-    one None h = h
-    one (Some source) h = ap (cons_option (option_map (under p) (node_of (found_at options files p source)))) h
+      one None h = h
+      one (Some source) h = ap (cons_option (option_map (under p) (node_of (found_at options files p source)))) h
 
 -- ---- from the entries
 
@@ -131,11 +131,11 @@ module _ (ask : Ask) (files : Snapshot) where
       ap (λ fs. option_map_or found_faults (found_with fs p) (EntryMissing p ∷ [])) founds_are
       ∙ ap (λ o. option_map_or found_faults o (EntryMissing p ∷ [])) (found_with_in ask.options files (reach ask files) p)
       ∙ faults_one p (list_any (bytes_eq p) (reach ask files)) refl
-        (λ no. unreached p
-          (elim (or_cases (list_any (bytes_eq p) ask.entries) (list_any (bytes_eq p) (reach ask files)) (sym (list_any-append (bytes_eq p) ask.entries (reach ask files)) ∙ sym (has_ascending (ask.entries ++ reach ask files) p) ∙ h)) [
-            | inl e ↦ e
-            | inr r ↦ absurd (false≢true (sym no ∙ r))
-          ]) no)
+      (λ no. unreached p
+      (elim (or_cases (list_any (bytes_eq p) ask.entries) (list_any (bytes_eq p) (reach ask files)) (sym (list_any-append (bytes_eq p) ask.entries (reach ask files)) ∙ sym (has_ascending (ask.entries ++ reach ask files) p) ∙ h)) [
+        | inl e ↦ e
+        | inr r ↦ absurd (false≢true (sym no ∙ r))
+      ]) no)
 
   same_along : (f g : List ℕ → List BuildFault) (ps : List (List ℕ)) → ((p : List ℕ) → list_any (bytes_eq p) ps ≡ true → f p ≡ g p) → flat_map f ps ≡ flat_map g ps
   same_along f g [] h = refl

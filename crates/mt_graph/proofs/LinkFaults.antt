@@ -72,10 +72,10 @@ no_fault_by path output n (name ∷ names) (link ∷ links) h =
     let a = and_parts (is_file link) (list_all is_file links) h in
     ap (λ fs. link_fault path output (n, (name, link)) ++ fs) (no_fault_by path output (n + 1) names links a.1) ∙ none (placed output n name) link.target a.0
   where
-  none : (d : Dependency) (t : Target) → is_file (record { target = t }) ≡ true → fault_of path d t ++ [] ≡ []
-  none d (target.File p) e = refl
-  none d target.None e = cc
-  none d (target.BadPackage p) e = cc
+    none : (d : Dependency) (t : Target) → is_file (record { target = t }) ≡ true → fault_of path d t ++ [] ≡ []
+    none d (target.File p) e = refl
+    none d target.None e = cc
+    none d (target.BadPackage p) e = cc
 
 pub no_fault : (path : List ℕ) (output : Output) (links : List Resolution) → list_all is_file links ≡ true → [] ≡ link_faults path output links
 no_fault path output links h = sym (no_fault_by path output 0 output.names links h)
@@ -85,8 +85,8 @@ no_fault path output links h = sym (no_fault_by path output 0 output.names links
 at : {A B : Type 0} (f : A → List B) (xs : List A) (i : ℕ) → flat_map f (drop i xs) ≡ option_map_or f (slice_get xs i) [] ++ flat_map f (drop (i + 1) xs)
 at f [] i = ap (flat_map f) (drop_nothing i) ∙ sym (ap (flat_map f) (drop_nothing (i + 1)))
   where
-  drop_nothing : {A : Type 0} (i : ℕ) → drop {A = A} i [] ≡ []
-  drop_nothing i = drop_all i [] (omega arith)
+    drop_nothing : {A : Type 0} (i : ℕ) → drop {A = A} i [] ≡ []
+    drop_nothing i = drop_all i [] (omega arith)
 at f (x ∷ xs) zero = refl
 at f (x ∷ xs) (suc i) =
     let e : suc i + 1 ≡ suc (i + 1) = omega arith in

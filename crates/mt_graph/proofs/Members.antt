@@ -40,11 +40,11 @@ get-with_entry m (e ∷ es) q =
     ∙ ap (cond (list_any (bytes_eq q) es) (Some None)) (get-insert nat_list_cmp_total m e None q ∙ ap (λ b. cond b (Some None) (get m q)) (is_eq-slice_cmp q e))
     ∙ either (list_any (bytes_eq q) es) (bytes_eq q e) (get m q)
   where
-  either : (a b : Bool) (o : Option (Option Member)) → cond a (Some None) (cond b (Some None) o) ≡ cond (b || a) (Some None) o
-  either true true o = refl
-  either true false o = refl
-  either false true o = refl
-  either false false o = refl
+    either : (a b : Bool) (o : Option (Option Member)) → cond a (Some None) (cond b (Some None) o) ≡ cond (b || a) (Some None) o
+    either true true o = refl
+    either true false o = refl
+    either false true o = refl
+    either false false o = refl
 
 -- what stands at a path once something was found
 abbrev placed_over : Option Found → Option (Option Member) → Option (Option Member)
@@ -97,9 +97,9 @@ member_entries es fs =
 pub member_faults_with : (fs : List Found) (p : List ℕ) → member_faults p (member_in fs p) ≡ faults_with fs p
 member_faults_with fs p = by (found_with fs p) refl
   where
-  by : (o : Option Found) → found_with fs p ≡ o → member_faults p (option_map member_of (found_with fs p)) ≡ faults_with fs p
-  by None e = rw e refl
-  by (Some f) e = rw e (ap (λ z. module_faults z f.links f.made) (found_path fs p f e))
+    by : (o : Option Found) → found_with fs p ≡ o → member_faults p (option_map member_of (found_with fs p)) ≡ faults_with fs p
+    by None e = rw e refl
+    by (Some f) e = rw e (ap (λ z. module_faults z f.links f.made) (found_path fs p f e))
 
 faults_along : (fs : List Found) (ps : List (List ℕ)) → faults_of_all (map (λ p. (p, member_in fs p)) ps) ≡ flat_map (faults_with fs) ps
 faults_along fs [] = refl
@@ -123,17 +123,26 @@ IsDecided fs p =
 decided_links : (fs : List Found) (p : List ℕ) (f : Found) (output : Output) → found_with fs p ≡ Some f → f.made ≡ Ok output → (faults : List BuildFault) → link_faults p output f.links ≡ faults → IsDecided fs p
 decided_links fs p f output e m [] h =
     let node : Node = record { output = output; links = f.links } in
-    inl (node, (
-      sym (member_faults_with fs p) ∙ rw (e, m) h,
-      rw (e, m) (ap (decided node) h),
-      rw (e, m) refl,
-    ))
+    inl (
+      node,
+      (
+        sym (member_faults_with fs p) ∙ rw (e, m) h,
+        rw (e, m) (ap (decided node) h),
+        rw (e, m) refl,
+      ),
+    )
 decided_links fs p f output e m (fault ∷ more) h =
     let node : Node = record { output = output; links = f.links } in
-    inr (fault, (more, (
-      sym (member_faults_with fs p) ∙ rw (e, m) h,
-      rw (e, m) (ap (decided node) h),
-    )))
+    inr (
+      fault,
+      (
+        more,
+        (
+          sym (member_faults_with fs p) ∙ rw (e, m) h,
+          rw (e, m) (ap (decided node) h),
+        ),
+      ),
+    )
 
 decided_made : (fs : List Found) (p : List ℕ) (f : Found) → found_with fs p ≡ Some f → (made : Result Output SourceFault) → f.made ≡ made → IsDecided fs p
 decided_made fs p f e (Ok output) m = decided_links fs p f output e m (link_faults p output f.links) refl
@@ -232,9 +241,9 @@ each_none fs (p ∷ ps) q h k = elim (or_cases (bytes_eq q p) (list_any (bytes_e
 none_missing : (fs : List Found) (q : List ℕ) → faults_with fs q ≡ [] → list_any (bytes_eq q) (paths_of fs) ≡ true
 none_missing fs q h = has_found fs q ∙ by (found_with fs q) refl
   where
-  by : (o : Option Found) → found_with fs q ≡ o → is_some (found_with fs q) ≡ true
-  by None e = let k : EntryMissing q ∷ [] ≡ [] = subst (λ o. option_map_or found_faults o (EntryMissing q ∷ []) ≡ []) e h in cc
-  by (Some f) e = ap is_some e
+    by : (o : Option Found) → found_with fs q ≡ o → is_some (found_with fs q) ≡ true
+    by None e = let k : EntryMissing q ∷ [] ≡ [] = subst (λ o. option_map_or found_faults o (EntryMissing q ∷ []) ≡ []) e h in cc
+    by (Some f) e = ap is_some e
 
 all_found : (es : List (List ℕ)) (fs : List Found) → IsStrictlySortedBy (slice_cmp nat_cmp) (paths_of fs) → flat_map (faults_with fs) (ascending (es ++ paths_of fs)) ≡ [] → ascending (es ++ paths_of fs) ≡ paths_of fs
 all_found es fs h none = same_paths (ascending (es ++ paths_of fs)) (paths_of fs) (ascending_sorted (es ++ paths_of fs)) h (λ q.
@@ -242,10 +251,10 @@ all_found es fs h none = same_paths (ascending (es ++ paths_of fs)) (paths_of fs
     (λ a. none_missing fs q (each_none fs (ascending (es ++ paths_of fs)) q none a))
     (λ a. has_ascending (es ++ paths_of fs) q ∙ list_any-append (bytes_eq q) es (paths_of fs) ∙ or_right (list_any (bytes_eq q) es) (list_any (bytes_eq q) (paths_of fs)) a))
   where
-  both_same : (b c : Bool) → (b ≡ true → c ≡ true) → (c ≡ true → b ≡ true) → b ≡ c
-  both_same true c h k = sym (h refl)
-  both_same false true h k = k refl
-  both_same false false h k = refl
+    both_same : (b c : Bool) → (b ≡ true → c ≡ true) → (c ≡ true → b ≡ true) → b ≡ c
+    both_same true c h k = sym (h refl)
+    both_same false true h k = k refl
+    both_same false false h k = refl
 
 same_graph : (es : List (List ℕ)) (fs : List Found) → IsStrictlySortedBy (slice_cmp nat_cmp) (paths_of fs) → (faults : List BuildFault) → flat_map (faults_with fs) (ascending (es ++ paths_of fs)) ≡ faults
     → decided (from_entries (filter_map (node_with fs) (ascending (es ++ paths_of fs)))) faults ≡ decided (judged_graph fs) faults

@@ -133,7 +133,15 @@ fn faults_of_links(
     }
     let places = output.places(alloc)?;
     for i in 0..links.len() {
-        push_fault(alloc, path, output, places.as_slice(), links, i, &mut faults)?;
+        push_fault(
+            alloc,
+            path,
+            output,
+            places.as_slice(),
+            links,
+            i,
+            &mut faults,
+        )?;
     }
     Ok(faults)
 }
@@ -147,7 +155,12 @@ fn faults_of_member(
     ensures exact { IfOk result (λ faults. faults ≡ member_faults path.now member.now) }
 {
     let Some(Member { made, links }) = member else {
-        return one_fault(alloc, BuildFault::EntryMissing { path: path.clone()? });
+        return one_fault(
+            alloc,
+            BuildFault::EntryMissing {
+                path: path.clone()?,
+            },
+        );
     };
     match made {
         Ok(output) => faults_of_links(alloc, path, output, links),
@@ -178,15 +191,13 @@ fn linked(
 }
 
 /// The module at a path that is to be one, or its first fault.
-fn node_of_member(
-    alloc: Global,
-    path: &Path,
-    member: Option<Member>,
-) -> Result<Node, BuildFault>
+fn node_of_member(alloc: Global, path: &Path, member: Option<Member>) -> Result<Node, BuildFault>
     ensures exact { (result ≡ Err BuildFault.NoMemory) ⊎ (result ≡ node_or_fault path.now member) }
 {
     let Some(Member { made, links }) = member else {
-        return Err(BuildFault::EntryMissing { path: path.clone()? });
+        return Err(BuildFault::EntryMissing {
+            path: path.clone()?,
+        });
     };
     match made {
         Ok(output) => linked(alloc, path, output, links),

@@ -10,5 +10,5 @@ mod law;
 pub use explorer::Explorer;
 pub use found::{Found, FoundList, LinkList};
 pub use graph::{Graph, Node, module_paths};
-pub use law::{law_of_explorations, law_of_graphs};
 pub use judgement::{FaultList, MAX_MODULES, faults_found, judge};
+pub use law::{law_of_explorations, law_of_graphs};

@@ -54,7 +54,9 @@ fn figures_line(
     let counts = format!(in alloc; "revision {number} changes {changes} modules {modules}")?;
     let counts = Text::from_string(counts);
     let counts = counts.as_str();
-    let line = format!(in alloc; "{counts} added {added} modified {modified} deleted {deleted} bytes {length} digest {digest}\n")?;
+    let line = format!(in alloc;
+        "{counts} added {added} modified {modified} deleted {deleted} bytes {length} digest {digest}\n"
+    )?;
     Ok(Text::from_string(line))
 }
 

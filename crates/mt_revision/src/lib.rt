@@ -13,7 +13,9 @@ mod write;
 
 pub use delta_lengths::DeltaLengths;
 pub use held_map::{HeldMap, held};
-pub use law::{law_of_contents, law_of_deltas, law_of_logs, law_of_numberings, law_of_revisions, law_of_slots};
+pub use law::{
+    law_of_contents, law_of_deltas, law_of_logs, law_of_numberings, law_of_revisions, law_of_slots,
+};
 pub use modules::{Module, ModuleMap};
 pub use numbering::Numbering;
 pub use revision::Revision;

@@ -117,11 +117,7 @@ impl Numbering {
     /// This numbering, in which each path keeps its number, with new paths after it: first the entries that have no
     /// number yet, in their order, and then the other members that have none, by path. The members are the keys of a
     /// map or a set. Refused only where memory runs out.
-    pub fn extend<V>(
-        &self,
-        entries: &[Path],
-        members: &PathMap<V>,
-    ) -> Result<Numbering, AllocError>
+    pub fn extend<V>(&self, entries: &[Path], members: &PathMap<V>) -> Result<Numbering, AllocError>
         requires entries { IsDistinct bytes_eq entries.now }
         requires few { length self.now + length entries.now + map.len members.now < 4294967295 }
         ensures exact { IfOk result (λ numbering. numbering ≡ extended self.now entries.now (map.keys members.now)) }

@@ -12,10 +12,10 @@ returns-in_default-get c = record { ok = no_link c.args.path.now c.args.output.n
 pub returns : goal.returns
 returns c = record {
   ok = subst (λ fs. OnOk c.append.result (c.append.new.self ≡ c.args.faults.now ++ fs))
-    (fault_found c.args.path.now c.args.output.now c.args.links.now c.args.i c.place_at-place.result c.in-Some.name.now c.in-Some-get.link.now c.in_ok-fault_of_target.field-0
-    (ap (λ xs. slice_get xs c.args.i) (sym c.names.ensures.value) ∙ sym c.in-Some.ensures.item)
-    (sym c.in-Some-get.ensures.item)
-    (c.place_at-place.ensures.exact ∙ ap (λ ps. slice_index ps c.args.i) c.requires.places)
-    c.in_ok-fault_of_target.ensures.exact)
-    c.append.ensures.ok;
+      (fault_found c.args.path.now c.args.output.now c.args.links.now c.args.i c.place_at-place.result c.in-Some.name.now c.in-Some-get.link.now c.in_ok-fault_of_target.field-0
+      (ap (λ xs. slice_get xs c.args.i) (sym c.names.ensures.value) ∙ sym c.in-Some.ensures.item)
+      (sym c.in-Some-get.ensures.item)
+      (c.place_at-place.ensures.exact ∙ ap (λ ps. slice_index ps c.args.i) c.requires.places)
+      c.in_ok-fault_of_target.ensures.exact)
+      c.append.ensures.ok;
 }

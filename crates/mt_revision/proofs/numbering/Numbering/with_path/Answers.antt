@@ -25,7 +25,7 @@ invariant_of-result c =
     let few : length c.args.self < 4294967294 = c.requires.few in (
       subst (IsDistinct bytes_eq) (sym more) (pushed_distinct c.self.inside.paths c.args.path.now out c.self.invariant.0),
       number_added c.self.inside.paths c.args.path.now c.in_ok-clone.field-0 c.in_ok-clone-2.field-0 _ c.self.inside.numbers c.insert.new.self c.push.new.self c.self.invariant.1 none
-        (search rules) copy (search rules) c.in_ok-insert.ensures.ok c.in_ok-push.ensures.ok,
+          (search rules) copy (search rules) c.in_ok-insert.ensures.ok c.in_ok-push.ensures.ok,
       omega (arith, longer, one, same, few),
     )
 
