@@ -3,16 +3,15 @@ ghost use Rattle.std.specs.Prelude.{⊤, None};
 
 use mt_files::{CrawlFault, Entry, FileMap, crawl};
 use mt_io::{Folder, MapFolder, Named, NamedKind, NamedList, SureFolder, Trouble};
-use mt_path::Path;
+use mt_path::{Path, PathMap};
 use mt_tokens::{Bytes, MAX_SOURCE_BYTES, Text};
 use std::alloc::{AllocError, Global};
-use std::collections::BTreeMap;
 use std::test::Fail;
 
 /// Puts a file of these bytes.
 pub(crate) fn add(
     alloc: Global,
-    tree: &mut BTreeMap<Path, Bytes>,
+    tree: &mut PathMap<Bytes>,
     text: &str,
     bytes: Bytes,
 ) -> Result<(), Fail> {
@@ -21,8 +20,8 @@ pub(crate) fn add(
 }
 
 /// Files that hold their own paths.
-pub(crate) fn files(alloc: Global, texts: &[&str]) -> Result<BTreeMap<Path, Bytes>, Fail> {
-    let mut tree = BTreeMap::new(alloc);
+pub(crate) fn files(alloc: Global, texts: &[&str]) -> Result<PathMap<Bytes>, Fail> {
+    let mut tree = PathMap::new(alloc);
     for text in texts {
         let bytes = Bytes::from_slice(alloc, text.as_bytes())?;
         add(alloc, &mut tree, text, bytes)?;
