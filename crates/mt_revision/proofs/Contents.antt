@@ -1,6 +1,6 @@
 -- What a revision has of a snapshot.
-use Rattle.std.proofs.Common.{inl, inr, ◌⊎◌, ◌≡◌, ◌∙◌, ℕ, Bool, true, false, ◌&&◌, ◌||◌, cond, nat_eq, List, [], ◌∷◌, ◌++◌, map, filter, length, slice_get, Option, Some, None, Result, Ok, Err, refl, ap, sym, subst}
-use Rattle.std.specs.List.{cons_option, filter_map, flat_map, list_all, list_any}
+use Rattle.std.proofs.Common.{inl, inr, ◌⊎◌, ◌≡◌, ◌∙◌, ℕ, Bool, true, false, ◌&&◌, cond, nat_eq, List, [], ◌∷◌, map, length, slice_get, Option, Some, None, Result, Ok, Err, refl, ap, sym}
+use Rattle.std.specs.List.{cons_option, filter_map, list_all, list_any}
 use Rattle.std.specs.Option.{option_and_then, option_map, option_map_or}
 use Rattle.std.specs.Result.{result_ok}
 use Rattle.std.specs.Str.{bytes_eq}
@@ -26,7 +26,7 @@ use Rattle.mt_files.proofs.Reach.{reach_step}
 use Rattle.mt_transform.specs.Outputs.{name_of, output_made, output_of}
 use Rattle.mt_transform.specs.declared.output.Output.{Output}
 use Rattle.mt_revision.specs.Numberings.{has_path, number_in}
-use Rattle.mt_revision.specs.Contents.{HasContent, module_at, module_with, modules_at, numbered_module, output_at, path_under, paths_under, slot_of}
+use Rattle.mt_revision.specs.Contents.{HasContent, module_at, module_with, numbered_module, output_at, path_under, paths_under, slot_of}
 use Rattle.mt_revision.specs.declared.modules.Module.{Module}
 use Rattle.mt_revision.specs.declared.revision.Revision.{Revision}
 use Rattle.mt_revision.proofs.Numbers.{path_of_number, path_with_number}

@@ -6,7 +6,7 @@ use Rattle.std.specs.Result.{result_ok}
 use Rattle.std.specs.Str.{bytes_eq}
 use Rattle.std.specs.Ordering.{nat_cmp, eq_by_cmp}
 use Rattle.std.specs.Cmp.Lexicographic.{slice_cmp, nat_list_cmp_total}
-use Rattle.std.specs.FinMap.{contains_key-keys, find, from_entries, get-from_entries, keys}
+use Rattle.std.specs.FinMap.{contains_key-keys, find, from_entries, get-from_entries}
 use Rattle.std.proofs.lemmas.Map.Text.{is_eq-slice_cmp}
 use Rattle.mt_tokens.specs.declared.source.SourceFault.{SourceFault}
 use Rattle.mt_tokens.specs.Transform.{Transformed, transformed}
@@ -21,7 +21,7 @@ use Rattle.mt_files.specs.declared.build_fault.BuildFault.TheVariants.{EntryMiss
 use Rattle.mt_files.proofs.PathLists.{Has, append_right, has_key, same_path}
 use Rattle.mt_transform.specs.Outputs.{output_made, output_of}
 use Rattle.mt_transform.specs.declared.output.Output.{Output}
-use Rattle.mt_revision.specs.Contents.{module_at, module_with, output_at}
+use Rattle.mt_revision.specs.Contents.{module_at, module_with}
 use Rattle.mt_revision.specs.declared.modules.Module.{Module}
 
 -- ---- members

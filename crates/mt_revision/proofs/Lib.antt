@@ -4,13 +4,13 @@ pub mod Sets
 pub mod Numbers
 pub mod Contents
 pub mod Faultless
-pub mod Texts
-pub mod Graph
+pub mod Bundles
+pub mod EdgesNamed
 pub mod Revisions
 pub mod Logs
 pub mod Slots
 pub mod Touches
 pub mod Lengths
 pub mod Writes
-pub mod Holds
-pub mod Leads
+pub mod TextsOf
+pub mod Applied

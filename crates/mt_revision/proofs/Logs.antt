@@ -1,5 +1,5 @@
 -- Legal logs.
-use Rattle.std.proofs.Common.{◌≡◌, ◌≤◌, ◌<◌, ◌+◌, ◌∙◌, ℕ, zero, suc, List, [], ◌∷◌, ◌++◌, map, length, take, Option, Some, None, Result, Ok, Err, refl, ap, sym, subst, arith, append-nil, append_assoc, length-append}
+use Rattle.std.proofs.Common.{◌≡◌, ◌≤◌, ◌<◌, ◌+◌, ◌∙◌, ℕ, zero, suc, List, [], ◌∷◌, ◌++◌, map, length, take, Some, Ok, Err, refl, ap, sym, subst, arith, append-nil, append_assoc, length-append}
 use Rattle.std.specs.List.{All, IsDistinct, fold, range_with_len, slice_index_or}
 use Rattle.std.proofs.lemmas.List.Elements.{All-cons}
 use Rattle.std.specs.List.Sorted.{IsNonDecreasing}
@@ -10,12 +10,10 @@ use Rattle.mt_files.specs.Fresh.{all_faults, decided, edges_of, fresh}
 use Rattle.mt_files.specs.Reach.{reach}
 use Rattle.mt_files.specs.Changes.{stepped}
 use Rattle.mt_files.specs.declared.change.Change.{Change}
-use Rattle.mt_files.specs.declared.build_fault.BuildFault.{BuildFault}
 use Rattle.mt_files.proofs.Reach.{reach_ascending}
-use Rattle.mt_revision.specs.Numberings.{extended}
 use Rattle.mt_revision.specs.Revisions.{next_number}
 use Rattle.mt_revision.specs.Contents.{HasContent, revision_after}
-use Rattle.mt_revision.specs.Logs.{Accepted, Denied, IsAccepted, IsDenied, IsLegal, IsLegalAfter, IsNext, Logged, Reached, count_of, files_at, numbering_at, reached_after, reached_by, revisions_of, unlogged}
+use Rattle.mt_revision.specs.Logs.{Accepted, Denied, IsAccepted, IsLegal, IsLegalAfter, IsNext, Logged, Reached, count_of, files_at, numbering_at, reached_after, reached_by, revisions_of, unlogged}
 use Rattle.mt_revision.specs.declared.revision.Revision.{Revision}
 use Rattle.mt_revision.proofs.Extensions.{ascending_distinct, extended_distinct, extended_more}
 use Rattle.mt_revision.proofs.Revisions.{after_only}

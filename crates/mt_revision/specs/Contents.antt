@@ -1,5 +1,5 @@
 -- What a revision has of a snapshot, under a numbering.
-use Rattle.std.specs.Prelude.{◌≡◌, ℕ, true, List, [], ◌++◌, Option, Some, None, filter, map, Result}
+use Rattle.std.specs.Prelude.{◌≡◌, ℕ, true, List, [], ◌++◌, Option, None, filter, map, Result}
 use Rattle.std.specs.List.{filter_map, flat_map, list_all, slice_get}
 use Rattle.std.specs.Option.{option_and_then, option_map, option_map_or}
 use Rattle.std.specs.Result.{result_ok}

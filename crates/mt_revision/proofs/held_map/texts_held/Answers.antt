@@ -1,7 +1,7 @@
 use Rattle.std.proofs.Common.{◌≡◌, ◌∙◌, ap}
 use Rattle.std.specs.FinMap.{entries}
 use Rattle.mt_revision.specs.Texts.{text_in}
-use Rattle.mt_revision.proofs.Holds.{held_start, held_step, held_whole, sorted_next, sorted_start}
+use Rattle.mt_revision.proofs.TextsOf.{held_start, held_step, held_whole, sorted_next, sorted_start}
 use Rattle.mt_revision.proofs.held_map.texts_held.Goals as goal
 
 pub loop-number-init : goal.loop-number-init

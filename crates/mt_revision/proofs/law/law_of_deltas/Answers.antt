@@ -1,4 +1,4 @@
-use Rattle.mt_revision.proofs.Leads.{delta_fits, delta_leads}
+use Rattle.mt_revision.proofs.Applied.{delta_fits, delta_leads}
 use Rattle.mt_revision.proofs.law.law_of_deltas.Goals as goal
 
 pub returns : goal.returns

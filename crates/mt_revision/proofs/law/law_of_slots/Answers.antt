@@ -1,5 +1,5 @@
 use Rattle.mt_revision.proofs.Contents.{content_edges, content_names, content_path}
-use Rattle.mt_revision.proofs.Graph.{content_graph}
+use Rattle.mt_revision.proofs.EdgesNamed.{content_graph}
 use Rattle.mt_revision.proofs.law.law_of_slots.Goals as goal
 
 pub returns : goal.returns

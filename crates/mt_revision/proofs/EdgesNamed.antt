@@ -18,8 +18,8 @@ use Rattle.mt_files.specs.Snapshots.{Snapshot}
 use Rattle.mt_files.specs.Edges.{edges}
 use Rattle.mt_files.specs.Reach.{reach}
 use Rattle.mt_files.specs.Fresh.{decided, edges_of, fresh}
-use Rattle.mt_files.proofs.PathLists.{Has, all_at, has_self, same_path}
-use Rattle.mt_revision.specs.Numberings.{has_path, number_in}
+use Rattle.mt_files.proofs.PathLists.{Has, has_self, same_path}
+use Rattle.mt_revision.specs.Numberings.{number_in}
 use Rattle.mt_revision.specs.Contents.{HasContent, edges_named, paths_under}
 use Rattle.mt_revision.specs.declared.modules.Module.{Module}
 use Rattle.mt_revision.specs.declared.revision.Revision.{Revision}

@@ -1,6 +1,6 @@
 -- The texts that a revision holds, and its bundle.
-use Rattle.std.proofs.Common.{inl, inr, ◌≡◌, ◌<◌, ◌+◌, ◌∙◌, ℕ, zero, suc, Bool, true, false, cond, List, [], ◌∷◌, ◌++◌, map, filter, slice_get, Option, Some, None, refl, ap, sym, arith}
-use Rattle.std.specs.List.{cons_option, filter_map, flat_map, list_all, IsDistinct, AllByRecursion}
+use Rattle.std.proofs.Common.{◌≡◌, ◌<◌, ◌+◌, ◌∙◌, ℕ, suc, Bool, true, false, cond, List, [], ◌∷◌, ◌++◌, map, slice_get, Option, Some, None, refl, ap, sym, arith}
+use Rattle.std.specs.List.{cons_option, flat_map, list_all, IsDistinct, AllByRecursion}
 use Rattle.std.specs.List.Sorted.{IsStrictlySortedBy}
 use Rattle.std.specs.Option.{option_map, option_map_or}
 use Rattle.std.specs.Str.{bytes_eq}
@@ -21,7 +21,7 @@ use Rattle.mt_write.specs.Modules.{start_of}
 use Rattle.mt_revision.specs.Numberings.{has_path, number_in}
 use Rattle.mt_revision.specs.Texts.{text_in}
 use Rattle.mt_revision.specs.Revisions.{bundle_of, held_of}
-use Rattle.mt_revision.specs.Contents.{HasContent, bundle_at, by_number, held_at, module_at, modules_at, numbers_of, text_at}
+use Rattle.mt_revision.specs.Contents.{HasContent, bundle_at, by_number, held_at, module_at, modules_at, text_at}
 use Rattle.mt_revision.specs.declared.modules.Module.{Module}
 use Rattle.mt_revision.specs.declared.revision.Revision.{Revision}
 use Rattle.mt_revision.proofs.Numbers.{number_at_place}
