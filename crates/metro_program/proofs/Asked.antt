@@ -1,25 +1,51 @@
--- What a run of `replay` keeps to, for the words that ask for it.
-use Rattle.std.proofs.Common.{◌≡◌, ◌∷◌, ℕ, List, [], Option, Some, Ok, refl, ap, sym, subst}
-use Rattle.m0_io.specs.Files.{Files}
-use Rattle.m0_io.specs.Told.{Reading}
-use Rattle.metro_program.specs.declared.ending.Ending.{Ending}
-use Rattle.metro_program.specs.declared.words.Request.TheVariants.{Replay}
-use Rattle.metro_program.specs.Replay.{replay_plan}
-use Rattle.metro_program.specs.Runs.{Keeps}
-use Rattle.metro_program.specs.Still.{HasScript, still, words_plan}
-use Rattle.metro_program.specs.Words.{words_of}
-use Rattle.metro_program.proofs.Outcomes.{script_reading}
+-- What the words ask for.
+use Rattle.std.proofs.Common.{inl, inr, ◌⊎◌, ◌≡◌, ◌==◌, ℕ, Bool, true, false, List, [], ◌∷◌, length, Option, Some, None, Result, Ok, Err, ap, sym, subst, ◌∙◌, if◌then◌else◌}
+use Rattle.std.specs.Option.{option_map_or}
+use Rattle.mt_io.specs.Files.{Files}
+use Rattle.mt_files.specs.Asks.{Ask}
+use Rattle.mt_script.specs.Scripts.{script_of}
+use Rattle.metro_program.specs.declared.words.Action.{Action}
+use Rattle.metro_program.specs.declared.words.Action.TheVariants.{Bundle, Replay}
+use Rattle.metro_program.specs.declared.words.Request.{Request}
+use Rattle.metro_program.specs.declared.words.WordFault.{WordFault}
+use Rattle.metro_program.specs.declared.words.WordFault.TheVariants.{BadWord, NoMemory}
+use Rattle.metro_program.specs.Bundle.{Bundles}
+use Rattle.metro_program.specs.Replays.{Replays}
+use Rattle.metro_program.specs.States.{AreEntries}
+use Rattle.metro_program.specs.Still.{words_plan}
+use Rattle.metro_program.specs.Words.{action_of, asked, entry_words, words_of}
+use Rattle.metro_program.proofs.AreEntries.{one_entry}
+use Rattle.metro_program.proofs.Bundles.{bundles}
+use Rattle.metro_program.proofs.Replays.{replays}
 
--- the plan of words that ask for a replay
-pub asked_plan : (words : List (List ℕ)) (entry : List ℕ) (tree : Files) (bytes : List ℕ) → words_of words ≡ Ok (Replay entry) → still words tree bytes ≡ replay_plan tree (entry ∷ []) bytes
-asked_plan words entry tree bytes named = ap (λ request. words_plan request tree bytes) named
+asked_entry : (action : Action) (entry : Result (List ℕ) WordFault) (request : Request) → asked action entry ≡ Ok request → AreEntries request.ask.entries
+asked_entry action (Ok entry) request e = subst (λ (r : Request). AreEntries r.ask.entries) (let k : _ ≡ request = cc in k) (one_entry entry)
+asked_entry action (Err fault) request e = absurd (cc)
 
--- a replay keeps to the plan of the words, where the script tells its bytes
-pub asked_keeps :
-    (words : List (List ℕ)) (entry : List ℕ) (tree : Files) (bytes : List ℕ) (told : Option Reading) (e : Ending) (old new : Option (List ℕ))
-    → words_of words ≡ Ok (Replay entry) → HasScript (words_of words) told bytes
-    → ((reading : Reading) → told ≡ Some reading → Keeps (replay_plan tree (entry ∷ []) reading.left) e old new)
-    → Keeps (still words tree bytes) e old new
-asked_keeps words entry tree bytes told e old new named gives keeps =
-    let r = script_reading told bytes (subst (λ request. HasScript request told bytes) named gives refl) in
-    subst (λ plan. Keeps plan e old new) (sym (asked_plan words entry tree bytes named)) (subst (λ left. Keeps (replay_plan tree (entry ∷ []) left) e old new) r.2 (keeps r.0 r.1))
+named_entry : (action : Option Action) (words : List (List ℕ)) (request : Request) → option_map_or (λ a. asked a (entry_words words)) action (Err (BadWord 1)) ≡ Ok request → AreEntries request.ask.entries
+named_entry None words request e = absurd (cc)
+named_entry (Some action) words request e = asked_entry action (entry_words words) request e
+
+-- the words ask for entries that a build may have
+pub words_entries : (words : List (List ℕ)) (request : Request) → words_of words ≡ Ok request → AreEntries request.ask.entries
+words_entries [] request e = absurd (cc)
+words_entries (word ∷ words) request e = named_entry (action_of word) words request e
+
+-- what the plan of words says that ask for a bundle, or for a replay
+pub words_bundle : (words : List (List ℕ)) (ask : Ask) (tree : Files) (bytes : List ℕ) → words_of words ≡ Ok (record { action = Bundle; ask = ask }) → Bundles ask tree (words_plan (words_of words) tree bytes)
+words_bundle words ask tree bytes e = subst (λ w. Bundles ask tree (words_plan w tree bytes)) (sym e) (bundles ask tree (words_entries words (record { action = Bundle; ask = ask }) e))
+
+pub words_replay : (words : List (List ℕ)) (ask : Ask) (tree : Files) (bytes : List ℕ) → words_of words ≡ Ok (record { action = Replay; ask = ask }) → Replays ask tree (script_of bytes) (words_plan (words_of words) tree bytes)
+words_replay words ask tree bytes e = subst (λ w. Replays ask tree (script_of bytes) (words_plan w tree bytes)) (sym e) (replays ask tree bytes (words_entries words (record { action = Replay; ask = ask }) e))
+
+-- what a reader of words answers
+abbrev pub ReadsWords : Result Request WordFault → Result Request WordFault → Type 0
+ReadsWords wanted r = (r ≡ Err NoMemory) ⊎ (r ≡ wanted)
+
+pub words_ok : (wanted : Result Request WordFault) (request : Request) → ReadsWords wanted (Ok request) → wanted ≡ Ok request
+words_ok wanted request (inl h) = absurd (cc)
+words_ok wanted request (inr h) = sym h
+
+pub words_err : (wanted : Result Request WordFault) (at : ℕ) → ReadsWords wanted (Err (BadWord at)) → wanted ≡ Err (BadWord at)
+words_err wanted at (inl h) = absurd (cc)
+words_err wanted at (inr h) = sym h

@@ -3,10 +3,15 @@ use Rattle.std.specs.Prelude.{ℕ, Bool, true, ◌==◌, List, [], ◌∷◌, le
 use Rattle.std.specs.Option.{option_map_or, option_and_then}
 use Rattle.std.specs.Result.{result_ok}
 use Rattle.std.specs.Str.{bytes_eq}
-use Rattle.m0_path.specs.Parse.{parsed}
-use Rattle.m0_path.specs.Names.{is_root}
+use Rattle.mt_package.specs.Options.{standard_options}
+use Rattle.mt_path.specs.Parse.{parsed}
+use Rattle.mt_path.specs.Names.{is_root}
+use Rattle.mt_files.specs.Asks.{Ask}
+use Rattle.metro_program.specs.declared.words.Action.{Action}
+use Rattle.metro_program.specs.declared.words.Action.TheVariants.{Bundle, Replay}
 use Rattle.metro_program.specs.declared.words.Request.{Request}
-use Rattle.metro_program.specs.declared.words.Request.TheVariants.{Bundle, Replay}
+use Rattle.metro_program.specs.declared.words.WordFault.{WordFault}
+use Rattle.metro_program.specs.declared.words.WordFault.TheVariants.{BadWord}
 
 -- a word that names no entry: it is empty, or it begins with `-`
 abbrev pub is_odd : List ℕ → Bool
@@ -22,19 +27,25 @@ rooted (b ∷ bs) = if b == 47 then b ∷ bs else 47 ∷ b ∷ bs
 abbrev pub entry_of : List ℕ → Option (List ℕ)
 entry_of word = if is_odd word then None else option_and_then (λ path. if is_root path then None else Some path) (result_ok (parsed (rooted word)))
 
--- the entry that the words behind the command name, or the number of the first bad word
-abbrev pub entry_words : List (List ℕ) → Result (List ℕ) ℕ
-entry_words [] = Err 2
-entry_words (word ∷ more) = option_map_or (λ entry. if length more == 0 then Ok entry else Err 3) (entry_of word) (Err 2)
+-- the entry that the words after the command name, or the number of the first bad word
+abbrev pub entry_words : List (List ℕ) → Result (List ℕ) WordFault
+entry_words [] = Err (BadWord 2)
+entry_words (word ∷ more) = option_map_or (λ entry. if length more == 0 then Ok entry else Err (BadWord 3)) (entry_of word) (Err (BadWord 2))
 
--- what is asked for an entry, unless a word is bad
-abbrev pub asked : (List ℕ → Request) → Result (List ℕ) ℕ → Result Request ℕ
-asked request (Ok entry) = Ok (request entry)
-asked request (Err at) = Err at
+-- what is asked for of one entry, under the options of a build that is told none
+abbrev pub ask_of : List ℕ → Ask
+ask_of entry = record { options = standard_options; entries = entry ∷ [] }
+
+-- what is to be done for an entry, unless a word is bad
+abbrev pub asked : Action → Result (List ℕ) WordFault → Result Request WordFault
+asked action (Ok entry) = Ok (record { action = action; ask = ask_of entry })
+asked action (Err fault) = Err fault
+
+-- what the first word asks to do
+abbrev pub action_of : List ℕ → Option Action
+action_of word = if bytes_eq word (codes "bundle") then Some Bundle else (if bytes_eq word (codes "replay") then Some Replay else None)
 
 -- what the words ask for, or the number of the first bad word, from 1
-abbrev pub words_of : List (List ℕ) → Result Request ℕ
-words_of [] = Err 1
-words_of (word ∷ words) =
-    if bytes_eq word (codes "bundle") then asked Bundle (entry_words words)
-    else (if bytes_eq word (codes "replay") then asked Replay (entry_words words) else Err 1)
+abbrev pub words_of : List (List ℕ) → Result Request WordFault
+words_of [] = Err (BadWord 1)
+words_of (word ∷ words) = option_map_or (λ action. asked action (entry_words words)) (action_of word) (Err (BadWord 1))

@@ -1,32 +1,25 @@
 //! The program `metro`: it bundles the JavaScript files of the folder in which it runs.
 #![tactic(auto)]
 
+mod ask;
 mod build;
 mod bundle;
-mod digest;
-mod ending;
+mod graph;
 mod real;
 mod replay;
-mod report;
-mod stage;
+mod state;
 mod still;
-#[cfg(test)]
-mod tests;
 mod words;
 
-use m0_fresh::Options;
-use m0_io::{FreeGate, send_all};
-use m0_tokens::Text;
+use mt_io::{FreeGate, send_all};
+use mt_tokens::Text;
 use real::{NoStore, RealFolder, RealSink, RealSource};
 use std::env;
 use std::io::{self, ErrorKind};
 use std::process::ExitCode;
 use still::metro_still;
 
-/// Bundles are for development.
-const OPTIONS: Options = Options { dev: true };
-
-/// The words behind the program's name.
+/// The words after the program's name.
 fn command_words(rt: &HostRuntime) -> io::Result<Vec<Text>> {
     let mut words = Vec::new(rt.alloc());
     for word in env::args(rt)?.skip(1) {

@@ -1,18 +1,17 @@
 //! The real folder, store and streams. They tell nothing of what they hold.
-ghost use Rattle.std.specs.Prelude.{◌≡◌, ◌≤◌, None};
-ghost use Rattle.m0_io.specs.Causes.{Rose};
+ghost use Rattle.std.specs.Prelude.{⊤, ◌≡◌, ◌≤◌, None};
+ghost use Rattle.mt_io.specs.Causes.{Rose};
 
-use m0_files::MOST_SOURCE_BYTES;
-use m0_io::{Failed, Folder, Named, NamedKind, NamedList, Sink, Source, Store, Trouble};
-use m0_path::Path;
-use m0_tokens::{Bytes, Text};
+use mt_io::{Failed, Folder, Named, NamedKind, NamedList, Sink, Source, Store, Trouble};
+use mt_path::Path;
+use mt_tokens::{Bytes, MAX_SOURCE_BYTES, Text};
 use std::alloc::{AllocError, Global};
 use std::fs::{self, File};
 use std::io::{self, ErrorKind, Read, Write};
 use std::rt::Files;
 
 /// The most bytes that are read of a file: one more than a source may have, so that its reader sees that there are more.
-const MOST_READ_BYTES: u64 = MOST_SOURCE_BYTES as u64 + 1;
+const MAX_READ_BYTES: u64 = MAX_SOURCE_BYTES as u64 + 1;
 
 /// A folder of the file system. Of a file with more bytes than a source may have it reads one byte past that limit, and
 /// no more.
@@ -33,7 +32,7 @@ impl<'a> RealFolder<'a> {
         }
     }
 
-    // Where a path stands in the file system.
+    // Where a path is in the file system.
     fn place(&self, alloc: Global, path: &Path) -> Result<String, AllocError> {
         let mut place = String::from_str(alloc, self.root)?;
         place.push_str(path.as_str())?;
@@ -67,16 +66,16 @@ impl<'a> RealFolder<'a> {
         Ok(names)
     }
 
-    // The bytes at the front of a file, read in pieces, up to the most that are read.
-    fn front(&self, alloc: Global, place: &str) -> io::Result<Vec<u8>> {
-        let mut front = Vec::new(alloc);
+    // The first bytes of a file, read in pieces, up to the most that are read.
+    fn first_bytes(&self, alloc: Global, place: &str) -> io::Result<Vec<u8>> {
+        let mut bytes = Vec::new(alloc);
         File::open(self.rt, place)?
-            .take(MOST_READ_BYTES)
-            .read_to_end(&mut front)?;
-        Ok(front)
+            .take(MAX_READ_BYTES)
+            .read_to_end(&mut bytes)?;
+        Ok(bytes)
     }
 
-    // A fault is counted; want of memory is none.
+    // Counts a fault, unless memory ran out.
     fn trouble(&mut self, error: io::Error) -> Trouble
         ensures later { self.old.faults ≤ self.new.faults }
         ensures failed { result ≡ Trouble.Failed → Rose self.old.faults self.new.faults }
@@ -90,9 +89,11 @@ impl<'a> RealFolder<'a> {
 }
 
 impl Folder for RealFolder<'_> {
-    ghost count = { λ f. f.faults };
+    ghost seen = { λ f. record { faults = f.faults; told = None; beside = None } };
 
-    ghost told = { λ _. None };
+    ghost lists = { λ _ _. ⊤ };
+
+    ghost reads = { λ _ _. ⊤ };
 
     fn faults(&self) -> u64 {
         self.faults
@@ -112,7 +113,7 @@ impl Folder for RealFolder<'_> {
         let Ok(place) = self.place(alloc, path) else {
             return Err(Trouble::NoMemory);
         };
-        match self.front(alloc, place.as_str()) {
+        match self.first_bytes(alloc, place.as_str()) {
             Ok(bytes) => Ok(Bytes::from_vec(bytes)),
             Err(error) => Err(self.trouble(error)),
         }
@@ -134,9 +135,7 @@ impl Folder for RealFolder<'_> {
 pub struct NoStore;
 
 impl Store for NoStore {
-    ghost count = { λ _. 0 };
-
-    ghost told = { λ _. None };
+    ghost seen = { λ _. record { faults = 0; told = None; beside = None } };
 
     fn faults(&self) -> u64 {
         0
@@ -166,11 +165,7 @@ impl<R: Read> RealSource<R> {
 }
 
 impl<R: Read> Source for RealSource<R> {
-    ghost count = { λ s. s.faults };
-
-    ghost told = { λ _. None };
-
-    ghost beside = { λ _. None };
+    ghost seen = { λ s. record { faults = s.faults; told = None; beside = None } };
 
     fn faults(&self) -> u64 {
         self.faults
@@ -202,16 +197,13 @@ impl<W: Write> RealSink<W> {
 }
 
 impl<W: Write> Sink for RealSink<W> {
-    ghost count = { λ s. s.faults };
-
-    ghost told = { λ _. None };
-
-    ghost beside = { λ _. None };
+    ghost seen = { λ s. record { faults = s.faults; told = None; beside = None } };
 
     fn faults(&self) -> u64 {
         self.faults
     }
 
+    #[tactic(auto, unfolding(mt_io::specs::Seen::Wrote, mt_io::specs::Seen::Missed))]
     fn write(&mut self, bytes: &[u8]) -> Result<usize, Failed> {
         match self.writer.write(bytes) {
             Ok(count) => {

@@ -1,18 +1,51 @@
 //! The words of a command line.
-ghost use Rattle.std.specs.Prelude.{◌≡◌, false, IfOk};
-ghost use Rattle.metro_program.specs.Words.{is_odd, rooted, entry_of, entry_words, words_of};
+ghost use Rattle.std.specs.Prelude.{◌≡◌, ◌⊎◌, [], ◌∷◌, false, Err, IfOk};
+ghost use Rattle.metro_program.specs.Words.{action_of, ask_of, entry_of, entry_words, is_odd, rooted, words_of};
 
-use m0_path::{Path, PathFault};
-use m0_tokens::Text;
+use crate::ask::BuildAsk;
+use mt_path::{Path, PathFault};
+use mt_tokens::Text;
 use std::alloc::{AllocError, Global};
+use thiserror::Error;
 
-/// What is asked for.
-#[derive(Debug, Drop)]
-pub enum Request {
-    /// The bundle of an entry.
-    Bundle(Path),
-    /// The builds of an entry, as the commands of a script change the files.
-    Replay(Path),
+/// What is to be done for an entry.
+#[derive(Clone, Copy, Debug, PartialEq, Eq)]
+pub enum Action {
+    /// Its bundle is to be written.
+    Bundle,
+    /// It is to be built as the commands of a script change the files.
+    Replay,
+}
+
+/// What a command line asks for.
+#[derive(Drop)]
+pub struct Request {
+    /// What is to be done.
+    pub action: Action,
+    /// What the builds are asked for.
+    pub ask: BuildAsk,
+}
+
+/// Why a command line asks for nothing.
+#[derive(Debug, Drop, Error)]
+pub enum WordFault {
+    /// The words aren't those of a command: the number of the first bad word, from 1.
+    #[error("word {0} is bad")]
+    BadWord(u32),
+    /// There was no memory for the words.
+    #[error("out of memory")]
+    NoMemory,
+}
+
+impl From<AllocError> for WordFault {
+    ghost use Rattle.std.specs.Prelude.{◌≡◌};
+    ghost use Rattle.metro_program.specs.declared.words.WordFault.TheVariants.{NoMemory};
+
+    ghost from_gives = { λ _ fault. fault ≡ NoMemory };
+
+    fn from(_: AllocError) -> WordFault {
+        WordFault::NoMemory
+    }
 }
 
 /// Whether a word is empty or begins with `-`.
@@ -59,35 +92,51 @@ fn entry_path(alloc: Global, word: &str) -> Result<Option<Path>, AllocError>
     }
 }
 
-/// The entry that the words behind the command name, or the number of the first bad word.
-fn read_entry(alloc: Global, words: &[Text]) -> Result<Result<Path, u32>, AllocError>
-    ensures entry { IfOk result (λ entry. entry ≡ entry_words words.now) }
+/// The entry that the words after the command name.
+fn read_entry(alloc: Global, words: &[Text]) -> Result<Path, WordFault>
+    ensures entry { (result ≡ Err WordFault.NoMemory) ⊎ (result ≡ entry_words words.now) }
 {
     let Some((word, more)) = words.split_first() else {
-        return Ok(Err(2));
+        return Err(WordFault::BadWord(2));
     };
     match entry_path(alloc, word.as_str())? {
-        None => Ok(Err(2)),
+        None => Err(WordFault::BadWord(2)),
         Some(entry) => {
             if more.is_empty() {
-                Ok(Ok(entry))
+                Ok(entry)
             } else {
-                Ok(Err(3))
+                Err(WordFault::BadWord(3))
             }
         }
     }
 }
 
-/// What the words ask for, or the number of the first bad word, from 1.
-pub fn read_words(alloc: Global, words: &[Text]) -> Result<Result<Request, u32>, AllocError>
-    ensures request { IfOk result (λ request. request ≡ words_of words.now) }
+/// What the first word asks to do.
+fn read_action(word: &str) -> Option<Action>
+    ensures action { result ≡ action_of word.now }
+{
+    match word {
+        "bundle" => Some(Action::Bundle),
+        "replay" => Some(Action::Replay),
+        _ => None,
+    }
+}
+
+/// What the words ask for.
+pub fn read_words(alloc: Global, words: &[Text]) -> Result<Request, WordFault>
+    ensures request { (result ≡ Err WordFault.NoMemory) ⊎ (result ≡ words_of words.now) }
 {
     let Some((command, rest)) = words.split_first() else {
-        return Ok(Err(1));
+        return Err(WordFault::BadWord(1));
     };
-    match command.as_str() {
-        "bundle" => Ok(read_entry(alloc, rest)?.map(Request::Bundle)),
-        "replay" => Ok(read_entry(alloc, rest)?.map(Request::Replay)),
-        _ => Ok(Err(1)),
+    let Some(action) = read_action(command.as_str()) else {
+        return Err(WordFault::BadWord(1));
+    };
+    match read_entry(alloc, rest) {
+        Ok(entry) => {
+            let ask = BuildAsk::of_entry(alloc, entry)?;
+            Ok(Request { action, ask })
+        }
+        Err(fault) => Err(fault),
     }
 }

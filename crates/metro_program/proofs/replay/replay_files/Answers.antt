@@ -1,26 +1,27 @@
-use Rattle.std.proofs.Common.{ap, subst, ◌∙◌}
-use Rattle.m0_io.specs.Told.{Grows, GrowsByPrefix}
-use Rattle.metro_program.specs.Replay.{built, opened}
-use Rattle.metro_program.specs.Stages.{standing}
-use Rattle.metro_program.proofs.Openings.{opened_fault, opened_keeps, opened_lines, trouble_fault}
+use Rattle.std.proofs.Common.{ap, sym, subst, ◌∙◌, refl, None}
+use Rattle.mt_io.specs.Seen.{Stopped, Wrote}
+use Rattle.metro_program.specs.Builds.{asked_step}
+use Rattle.metro_program.specs.Replay.{lines_after}
+use Rattle.metro_program.specs.States.{opened}
+use Rattle.metro_program.proofs.HasDone.{opened_begun, opened_fault}
+use Rattle.metro_program.proofs.Writes.{lacks_apart}
 use Rattle.metro_program.proofs.replay.replay_files.Goals as goal
 
-pub returns-in-Ok-clause-keeps : goal.returns-in-Ok-clause-keeps
-returns-in-Ok-clause-keeps g c = λ tree reading told gives.
-    opened_keeps tree c.args.entries.now (built c.args.entries.now (opened c.args.files)) (standing c.build.new.stage) reading.left c.run_script.result (g.O.Sink.told c.args.out.now) (g.O.Sink.told c.build.new.out) (g.O.Sink.told c.run_script.new.out)
-    (c.in-Ok.ensures.standing ∙ ap (λ s. (built c.args.entries.now s).standing) c.new-stage.ensures.opened)
-    (subst (λ s. Grows (g.O.Sink.told c.args.out.now) (g.O.Sink.told c.build.new.out) (built c.args.entries.now s).bytes) c.new-stage.ensures.opened c.in-Ok.ensures.all)
-    (c.run_script.ensures.keeps tree reading told gives)
+pub returns-in-Ok-clause-ends : goal.returns-in-Ok-clause-ends
+returns-in-Ok-clause-ends g c = λ start is.
+    c.run_script.ensures.ends start
+    (opened_begun start c.args.ask c.args.files (record { folder = g.F.Folder.seen c.args.folder.now; script = g.I.Source.seen c.args.script.now; out = g.O.Sink.seen c.args.out.now }) c.build.new.state (g.O.Sink.seen c.build.new.out) is
+    (c.in-Ok.ensures.state ∙ ap (λ s. (asked_step s).state) c.new-state.ensures.opened)
+    (subst (λ s. Wrote (g.O.Sink.seen c.args.out.now) (g.O.Sink.seen c.build.new.out) (lines_after s.latest (asked_step s).answers)) c.new-state.ensures.opened c.in-Ok.ensures.writes.all))
 
-pub returns-in-Ok-clause-lines : goal.returns-in-Ok-clause-lines
-returns-in-Ok-clause-lines g c = λ tree before read told gives failed stood gave.
-    opened_lines tree c.args.entries.now (built c.args.entries.now (opened c.args.files)) (standing c.build.new.stage) read (g.O.Sink.told c.args.out.now) (g.O.Sink.told c.build.new.out) (g.O.Sink.told c.run_script.new.out)
-    (c.in-Ok.ensures.standing ∙ ap (λ s. (built c.args.entries.now s).standing) c.new-stage.ensures.opened)
-    (subst (λ s. Grows (g.O.Sink.told c.args.out.now) (g.O.Sink.told c.build.new.out) (built c.args.entries.now s).bytes) c.new-stage.ensures.opened c.in-Ok.ensures.all)
-    (c.run_script.ensures.lines tree before told gives failed stood read gave)
+pub returns-in-Err-clause-ends : goal.returns-in-Err-clause-ends
+returns-in-Err-clause-ends g c = λ start is.
+    opened_fault start c.args.ask c.args.files (record { folder = g.F.Folder.seen c.args.folder.now; script = g.I.Source.seen c.args.script.now; out = g.O.Sink.seen c.args.out.now }) c.in-Err.trouble c.from.result
+    (record { folder = g.F.Folder.seen c.args.folder.now; script = g.I.Source.seen c.args.script.now; out = g.O.Sink.seen c.build.new.out }) is c.from.ensures
+    (subst (λ s. Stopped (g.O.Sink.seen c.args.out.now) (g.O.Sink.seen c.build.new.out) (lines_after s.latest (asked_step s).answers)) c.new-state.ensures.opened c.in-Err.ensures.writes.stop)
 
-pub returns-in-Err-clause-keeps : goal.returns-in-Err-clause-keeps
-returns-in-Err-clause-keeps g c = λ tree reading told gives.
-    opened_fault tree c.args.entries.now (built c.args.entries.now (opened c.args.files)) reading.left c.troubled.result (g.O.Sink.told c.args.out.now) (g.O.Sink.told c.build.new.out)
-    (trouble_fault c.in-Err.trouble c.troubled.result c.troubled.ensures.failed c.troubled.ensures.memory)
-    (subst (λ s. GrowsByPrefix (g.O.Sink.told c.args.out.now) (g.O.Sink.told c.build.new.out) (built c.args.entries.now s).bytes) c.new-stage.ensures.opened c.in-Err.ensures.part)
+pub returns-in-Ok-clause-out_apart : goal.returns-in-Ok-clause-out_apart
+returns-in-Ok-clause-out_apart g c = c.run_script.ensures.out_apart ∙ lacks_apart (g.O.Sink.seen c.args.out.now) (g.O.Sink.seen c.build.new.out) _ c.build.result c.build.ensures.writes
+
+pub returns-in-Err-clause-out_apart : goal.returns-in-Err-clause-out_apart
+returns-in-Err-clause-out_apart g c = lacks_apart (g.O.Sink.seen c.args.out.now) (g.O.Sink.seen c.build.new.out) _ c.build.result c.build.ensures.writes

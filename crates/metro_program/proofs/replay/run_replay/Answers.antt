@@ -1,23 +1,36 @@
-use Rattle.std.proofs.Common.{◌∷◌, [], subst, ◌∙◌}
-use Rattle.std.specs.List.{IsDistinct}
-use Rattle.m0_io.specs.Told.{Grows}
-use Rattle.m0_files.specs.Crawl.{crawled}
-use Rattle.metro_program.specs.Replay.{files_plan}
-use Rattle.metro_program.specs.Runs.{Keeps}
-use Rattle.metro_program.proofs.Openings.{crawl_ok}
-use Rattle.metro_program.proofs.Runs.{rose_from}
+use Rattle.std.proofs.Common.{refl, true}
+use Rattle.metro_program.proofs.Owes.{crawl_looks, crawl_owes, crawl_reads, crawl_takes, replay_owes, replay_reads}
+use Rattle.metro_program.specs.Replay.{files_plan, replay_plan}
 use Rattle.metro_program.proofs.replay.run_replay.Goals as goal
 
-pub replay_files-requires-clause-distinct : goal.replay_files-requires-clause-distinct
-unfolding IsDistinct
-replay_files-requires-clause-distinct g c = (tt, tt)
+pub returns-in-Ok-clause-owes : goal.returns-in-Ok-clause-owes
+returns-in-Ok-clause-owes g c =
+    replay_owes c.args.ask c.in-Ok.files
+    (record { folder = g.F.Folder.seen c.args.folder.now; script = g.I.Source.seen c.args.script.now; out = g.O.Sink.seen c.args.out.now })
+    (record { folder = g.F.Folder.seen c.crawl.new.folder; script = g.I.Source.seen c.args.script.now; out = g.O.Sink.seen c.args.out.now })
+    (record { folder = g.F.Folder.seen c.replay_files.new.folder; script = g.I.Source.seen c.replay_files.new.script; out = g.O.Sink.seen c.replay_files.new.out })
+    c.replay_files.result (λ tree tells. crawl_takes tree c.in-Ok.files (c.in-Ok.ensures.exact tree tells)) c.crawl.ensures.looks.same c.crawl.ensures.looks.later refl refl c.replay_files.ensures.ends
+    c.replay_files.ensures.read c.replay_files.ensures.write c.replay_files.ensures.folder.same c.crawl.ensures.looks.apart c.replay_files.ensures.folder.apart c.replay_files.ensures.script_apart c.replay_files.ensures.out_apart
 
-pub returns-in-Ok-clause-keeps : goal.returns-in-Ok-clause-keeps
-returns-in-Ok-clause-keeps g c = λ tree reading told gives.
-    subst (λ found. Keeps (files_plan tree (c.args.entry ∷ []) reading.left found) c.replay_files.result (g.O.Sink.told c.args.out.now) (g.O.Sink.told c.replay_files.new.out)) (crawl_ok c.in-Ok.files (crawled tree) (c.in-Ok.ensures.exact tree told))
-    (c.replay_files.ensures.keeps tree reading (c.crawl.ensures.same ∙ told) gives)
+pub returns-in-Ok-clause-script : goal.returns-in-Ok-clause-script
+returns-in-Ok-clause-script g c =
+    replay_reads c.args.ask c.in-Ok.files
+    (record { folder = g.F.Folder.seen c.args.folder.now; script = g.I.Source.seen c.args.script.now; out = g.O.Sink.seen c.args.out.now })
+    (record { folder = g.F.Folder.seen c.crawl.new.folder; script = g.I.Source.seen c.args.script.now; out = g.O.Sink.seen c.args.out.now })
+    (record { folder = g.F.Folder.seen c.replay_files.new.folder; script = g.I.Source.seen c.replay_files.new.script; out = g.O.Sink.seen c.replay_files.new.out })
+    c.replay_files.result (λ tree tells. crawl_takes tree c.in-Ok.files (c.in-Ok.ensures.exact tree tells)) c.crawl.ensures.looks.same c.crawl.ensures.looks.later refl refl c.replay_files.ensures.ends
 
-pub returns-in-Ok-clause-lines : goal.returns-in-Ok-clause-lines
-returns-in-Ok-clause-lines g c = λ tree before read told gives failed stood gave.
-    subst (λ found. Grows (g.O.Sink.told c.args.out.now) (g.O.Sink.told c.replay_files.new.out) (files_plan tree (c.args.entry ∷ []) read found).bytes) (crawl_ok c.in-Ok.files (crawled tree) (c.in-Ok.ensures.exact tree told))
-    (c.replay_files.ensures.lines tree before read (c.crawl.ensures.same ∙ told) gives failed (λ rose. stood (rose_from _ _ _ c.crawl.ensures.later rose)) gave)
+pub returns-in-Err-clause-owes : goal.returns-in-Err-clause-owes
+returns-in-Err-clause-owes g c =
+    crawl_owes
+    (record { folder = g.F.Folder.seen c.args.folder.now; script = g.I.Source.seen c.args.script.now; out = g.O.Sink.seen c.args.out.now })
+    (record { folder = g.F.Folder.seen c.crawl.new.folder; script = g.I.Source.seen c.args.script.now; out = g.O.Sink.seen c.args.out.now })
+    c.in-Err.fault c.from.result c.from.ensures c.in-Err.ensures.exact (crawl_looks _ _ c.in-Err.fault c.crawl.result c.in-Err.is c.crawl.ensures.looks) refl refl
+    (replay_plan c.args.ask) true (λ tree bytes found. files_plan tree c.args.ask bytes found) (λ tree bytes f. refl) (λ tree bytes. refl)
+
+pub returns-in-Err-clause-script : goal.returns-in-Err-clause-script
+returns-in-Err-clause-script g c =
+    crawl_reads
+    (record { folder = g.F.Folder.seen c.args.folder.now; script = g.I.Source.seen c.args.script.now; out = g.O.Sink.seen c.args.out.now })
+    (record { folder = g.F.Folder.seen c.crawl.new.folder; script = g.I.Source.seen c.args.script.now; out = g.O.Sink.seen c.args.out.now })
+    c.in-Err.fault c.from.result c.from.ensures c.in-Err.ensures.exact (crawl_looks _ _ c.in-Err.fault c.crawl.result c.in-Err.is c.crawl.ensures.looks) refl refl c.args.ask

@@ -1,28 +1,49 @@
-use Rattle.std.proofs.Common.{Err, ap, sym, subst, ◌∙◌}
-use Rattle.metro_program.specs.declared.ending.Ending.TheVariants.{NoMemory}
-use Rattle.metro_program.specs.Runs.{Run, Start}
-use Rattle.metro_program.specs.Stages.{standing}
-use Rattle.metro_program.proofs.Moves.{no_memory}
-use Rattle.metro_program.proofs.Runs.{rose_from, run_start, turn_fault}
+use Rattle.std.proofs.Common.{None, [], ap, sym, subst, refl, ◌∙◌, ◌≤◌, arith}
+use Rattle.metro_program.specs.Progress.{Ends}
+use Rattle.metro_program.proofs.HasDone.{first_done, memory_ends}
+use Rattle.metro_program.proofs.Writes.{looks_none, looks_then}
 use Rattle.metro_program.proofs.replay.run_script.Goals as goal
 
-pub returns-in-Err-clause-keeps : goal.returns-in-Err-clause-keeps
-returns-in-Err-clause-keeps g c = λ tree reading told gives.
-    let start : Start = record { standing = standing c.args.stage; reading = reading; out = g.O.Sink.told c.args.out.now } in
-    let begun : Run tree c.args.entries.now start (standing c.args.stage) c.in-Ok.reader (g.I.Source.told c.args.script.now) (g.O.Sink.told c.args.out.now) =
-    subst (λ z. Run tree c.args.entries.now start (standing c.args.stage) c.in-Ok.reader z (g.O.Sink.told c.args.out.now)) (sym gives) (run_start tree c.args.entries.now start c.in-Ok.reader (ap (λ p. p.held) c.in-Ok.ensures.empty) (ap (λ p. p.count) c.in-Ok.ensures.empty)) in
-    c.in-Err.ensures.ends tree start (c.loop-turn.invariant.same ∙ told) (c.loop-turn.invariant.run tree start told begun)
+pub returns-in-Err-clause-ends : goal.returns-in-Err-clause-ends
+returns-in-Err-clause-ends g c = λ start begun.
+    let first = begun.faults in
+    let later = c.loop-turn.invariant.folder.later in
+    c.in-Err.ensures.ends start (c.loop-turn.invariant.folder.same ∙ begun.folder) (omega (arith, first, later)) (c.loop-turn.invariant.on start begun)
 
-pub returns-in-Err-clause-lines : goal.returns-in-Err-clause-lines
-returns-in-Err-clause-lines g c = λ tree reading told gives failed stood read gave.
-    let start : Start = record { standing = standing c.args.stage; reading = reading; out = g.O.Sink.told c.args.out.now } in
-    let begun : Run tree c.args.entries.now start (standing c.args.stage) c.in-Ok.reader (g.I.Source.told c.args.script.now) (g.O.Sink.told c.args.out.now) =
-    subst (λ z. Run tree c.args.entries.now start (standing c.args.stage) c.in-Ok.reader z (g.O.Sink.told c.args.out.now)) (sym gives) (run_start tree c.args.entries.now start c.in-Ok.reader (ap (λ p. p.held) c.in-Ok.ensures.empty) (ap (λ p. p.count) c.in-Ok.ensures.empty)) in
-    c.in-Err.ensures.lines tree start (c.loop-turn.invariant.same ∙ told) (ap Err failed) (λ rose. stood (rose_from _ _ _ c.loop-turn.invariant.folder_later rose)) (c.loop-turn.invariant.run tree start told begun) read gave
+pub returns-clause-ends : goal.returns-clause-ends
+returns-clause-ends g c = λ start begun.
+    memory_ends start c.loop-turn.state c.loop-turn.reader (g.I.Source.seen c.loop-turn.script).told (g.O.Sink.seen c.loop-turn.out) (c.loop-turn.invariant.on start begun)
+    (record { folder = g.F.Folder.seen c.loop-turn.folder; script = g.I.Source.seen c.loop-turn.script; out = g.O.Sink.seen c.loop-turn.out }) refl
 
-pub returns-clause-keeps : goal.returns-clause-keeps
-returns-clause-keeps g c = λ tree reading told gives.
-    let start : Start = record { standing = standing c.args.stage; reading = reading; out = g.O.Sink.told c.args.out.now } in
-    let begun : Run tree c.args.entries.now start (standing c.args.stage) c.in-Ok.reader (g.I.Source.told c.args.script.now) (g.O.Sink.told c.args.out.now) =
-    subst (λ z. Run tree c.args.entries.now start (standing c.args.stage) c.in-Ok.reader z (g.O.Sink.told c.args.out.now)) (sym gives) (run_start tree c.args.entries.now start c.in-Ok.reader (ap (λ p. p.held) c.in-Ok.ensures.empty) (ap (λ p. p.count) c.in-Ok.ensures.empty)) in
-    turn_fault tree c.args.entries.now start (standing c.loop-turn.stage) c.loop-turn.reader (g.I.Source.told c.loop-turn.script) (g.O.Sink.told c.loop-turn.out) (c.loop-turn.invariant.run tree start told begun) NoMemory no_memory
+pub returns-in_default-clause-ends : goal.returns-in_default-clause-ends
+returns-in_default-clause-ends g c = λ start begun.
+    memory_ends start c.args.state (record { held = []; count = 0; fault = None }) (g.I.Source.seen c.args.script.now).told (g.O.Sink.seen c.args.out.now)
+    (first_done start c.args.state (record { held = []; count = 0; fault = None }) (g.I.Source.seen c.args.script.now).told (g.O.Sink.seen c.args.out.now) begun.script refl refl begun.leads)
+    (record { folder = g.F.Folder.seen c.args.folder.now; script = g.I.Source.seen c.args.script.now; out = g.O.Sink.seen c.args.out.now }) refl
+
+pub loop-turn-init : goal.loop-turn-init
+loop-turn-init g c = record {
+  on = λ start begun. first_done start c.args.state c.in-Ok.reader (g.I.Source.seen c.args.script.now).told (g.O.Sink.seen c.args.out.now) begun.script (ap (λ p. p.held) c.in-Ok.ensures.empty) (ap (λ p. p.count) c.in-Ok.ensures.empty) begun.leads;
+  going = ap (λ p. p.fault) c.in-Ok.ensures.empty;
+  folder = looks_none (g.F.Folder.seen c.args.folder.now);
+  script_later = omega arith;
+  script_apart = refl;
+  out_later = omega arith;
+  out_apart = refl;
+}
+
+pub loop-turn-preserved : goal.loop-turn-preserved
+loop-turn-preserved g c =
+    let script_one = c.loop-turn.invariant.script_later in
+    let script_two = c.turn.ensures.script_later in
+    let out_one = c.loop-turn.invariant.out_later in
+    let out_two = c.turn.ensures.out_later in
+    record {
+      on = λ start begun. c.in_default.ensures.on start (c.loop-turn.invariant.folder.same ∙ begun.folder) (c.loop-turn.invariant.on start begun);
+      going = c.in_default.ensures.going;
+      folder = looks_then (g.F.Folder.seen c.args.folder.now) (g.F.Folder.seen c.loop-turn.folder) (g.F.Folder.seen c.turn.new.folder) c.loop-turn.invariant.folder c.turn.ensures.folder;
+      script_later = omega (arith, script_one, script_two);
+      script_apart = c.turn.ensures.script_apart ∙ c.loop-turn.invariant.script_apart;
+      out_later = omega (arith, out_one, out_two);
+      out_apart = c.turn.ensures.out_apart ∙ c.loop-turn.invariant.out_apart;
+    }

@@ -1,7 +1,0 @@
-use Rattle.std.proofs.Common.{◌≡◌}
-use Rattle.std.specs.FinMap as map
-use Rattle.m0_files.specs.Rescans.{with_paths}
-use Rattle.m0_files.proofs.file_map.FileMap.add_paths.Given as goal
-
-abbrev pub invariant-loop-path : goal.invariant-loop-path
-invariant-loop-path l = with_paths l.paths l.path-iterator ≡ with_paths l.fn.paths (map.keys l.self)

@@ -1,5 +1,0 @@
-pub mod Causes
-pub mod Told
-pub mod Memory
-pub mod Children
-pub mod Files

@@ -1,5 +1,0 @@
-pub mod Children
-pub mod Join
-pub mod Names
-pub mod Parse
-pub mod Segments
