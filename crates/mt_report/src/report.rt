@@ -2,7 +2,7 @@
 ghost use Rattle.std.specs.Prelude.{◌≡◌, length, IfOk, option_copied};
 ghost use Rattle.sha2.specs.Sha256.{sha256};
 ghost use Rattle.hex.specs.Hex.{encode_lower};
-ghost use Rattle.mt_revision.specs.Held.{touched_between};
+ghost use Rattle.mt_revision.specs.Held.{delta, lengths_of, touched_between};
 ghost use Rattle.mt_revision.specs.Revisions.{bundle_of, held_before, held_of};
 ghost use Rattle.mt_report.specs.Reports.{figures_line, refused_line, revision_line, same_line};
 
@@ -60,6 +60,14 @@ fn figures_line(
     Ok(Text::from_string(line))
 }
 
+/// How many modules a revision adds, changes and takes out, where it was made after this one.
+fn delta_lengths(before: Option<&Revision>, revision: &Revision) -> DeltaLengths
+    requires touched { revision.now.touched ≡ touched_between (held_before (option_copied before)) (held_of revision.now) }
+    ensures exact { result ≡ lengths_of (delta (held_before (option_copied before.entry)) (held_of revision.now)) }
+{
+    revision.delta_lengths(before)
+}
+
 /// The line of a build that gave a revision, which was made after this one. Refused only where memory runs out.
 pub fn revision_line(
     alloc: Global,
@@ -75,7 +83,7 @@ pub fn revision_line(
         revision.number(),
         revision.changes(),
         revision.len(),
-        revision.delta_lengths(before),
+        delta_lengths(before, revision),
         &bundle,
     )
 }
