@@ -39,7 +39,7 @@ pub(crate) fn snapshot(alloc: Global, sources: &[(&str, &str)]) -> Result<FileMa
 }
 
 /// The graph from one entry.
-#[tactic(auto, unfolding(std::specs::List::IsDistinct))]
+#[tactic(auto, using(crate::proofs::Entries::one_distinct))]
 pub(crate) fn built(alloc: Global, files: &FileMap, entry: &str) -> Result<Graph, Fail> {
     let options = Options::standard(alloc)?;
     let entries = [Path::parse(alloc, entry)?];

@@ -74,7 +74,8 @@ fn the_first_limit_is_answered(rt: HostRuntime) -> Result<(), Fail> {
             let bytes = Vec::from_elem(rt.alloc(), 0, size)?;
             add(rt.alloc(), &mut tree, text, Bytes::from_vec(bytes))?;
         }
-        match crawl(rt.alloc(), &mut SureFolder::new(tree)) {
+        let mut folder = SureFolder::new(tree);
+        match crawl(rt.alloc(), &mut folder) {
             Ok(found) => assert!(rt; !refused && found.len() == 3),
             Err(CrawlFault::FileTooLarge { path, size }) => {
                 assert!(rt; refused && path.as_str() == "/a.js" && size == 16_777_217);

@@ -9,7 +9,7 @@ use std::alloc::{AllocError, Global};
 use std::test::Fail;
 
 /// The text of the first fault from one entry.
-#[tactic(auto, unfolding(std::specs::List::IsDistinct))]
+#[tactic(auto, using(crate::proofs::Entries::one_distinct))]
 fn first_fault(alloc: Global, files: &FileMap, entry: &str) -> Result<String, Fail> {
     let options = Options::standard(alloc)?;
     let entries = [Path::parse(alloc, entry)?];
@@ -30,7 +30,7 @@ fn lines_of(alloc: Global, found: &FaultList) -> Result<String, AllocError> {
 }
 
 /// The texts of all faults from one entry, a line each.
-#[tactic(auto, unfolding(std::specs::List::IsDistinct))]
+#[tactic(auto, using(crate::proofs::Entries::one_distinct))]
 fn all_faults(alloc: Global, files: &FileMap, entry: &str) -> Result<String, Fail> {
     let options = Options::standard(alloc)?;
     let entries = [Path::parse(alloc, entry)?];
@@ -143,19 +143,30 @@ fn an_entry_that_is_no_source_is_missing(rt: HostRuntime) -> Result<(), Fail> {
     Ok(())
 }
 
+/// The texts of all faults from two entries, a line each, where they differ.
+#[tactic(auto, using(crate::proofs::Entries::two_distinct))]
+fn faults_of_two(
+    alloc: Global,
+    files: &FileMap,
+    first: Path,
+    second: Path,
+) -> Result<String, Fail> {
+    if first == second {
+        return Ok(String::new(alloc));
+    }
+    let options = Options::standard(alloc)?;
+    let entries = [first, second];
+    let found = faults(alloc, files, &options, &entries)?;
+    Ok(lines_of(alloc, &found)?)
+}
+
 #[test]
-#[tactic(auto, unfolding(std::specs::List::IsDistinct))]
 fn missing_entries_come_among_the_other_faults(rt: HostRuntime) -> Result<(), Fail> {
     let files = snapshot(rt.alloc(), &RING)?;
-    let options = Options::standard(rt.alloc())?;
-    let entries = [
-        Path::parse(rt.alloc(), "/e.js")?,
-        Path::parse(rt.alloc(), "/d.js")?,
-    ];
-    assert!(rt; entries[0] != entries[1]);
-    let found = faults(rt.alloc(), &files, &options, &entries)?;
+    let missing = Path::parse(rt.alloc(), "/e.js")?;
+    let unresolved = Path::parse(rt.alloc(), "/d.js")?;
     let lines = "/d.js:8: cannot resolve \"./nowhere.js\"\nentry /e.js is not a source file\n";
-    assert!(rt; lines_of(rt.alloc(), &found)?.as_str() == lines);
+    assert!(rt; faults_of_two(rt.alloc(), &files, missing, unresolved)?.as_str() == lines);
     Ok(())
 }
 

@@ -35,6 +35,14 @@ fn is_change(change: &Change, text: &str, kept: &str) -> bool {
     change.path().as_str() == text && found == kept.as_bytes()
 }
 
+/// Whether a source is too large: this one, of so many bytes.
+fn is_too_large(fault: &CrawlFault, text: &str, bytes: usize) -> bool {
+    match fault {
+        CrawlFault::FileTooLarge { path, size } => path.as_str() == text && *size == bytes,
+        _ => false,
+    }
+}
+
 #[test]
 fn an_unchanged_folder_has_no_changes(rt: HostRuntime) -> Result<(), Fail> {
     let before = snapshot(rt.alloc(), &BEFORE)?;
@@ -114,12 +122,12 @@ fn a_source_that_is_too_large_is_refused(rt: HostRuntime) -> Result<(), Fail> {
     let mut tree = files(rt.alloc(), &BEFORE)?;
     let bytes = Vec::from_elem(rt.alloc(), 0, MAX_SOURCE_BYTES + 1)?;
     add(rt.alloc(), &mut tree, "/b.js", Bytes::from_vec(bytes))?;
-    match rescan(rt.alloc(), &mut SureFolder::new(tree), &before) {
-        Err(CrawlFault::FileTooLarge { path, size }) => {
-            assert!(rt; path.as_str() == "/b.js" && size == 16_777_217);
-        }
-        _ => assert!(rt; false),
-    }
+    let mut folder = SureFolder::new(tree);
+    let refused = match rescan(rt.alloc(), &mut folder, &before) {
+        Ok(_changes) => false,
+        Err(fault) => is_too_large(&fault, "/b.js", 16_777_217),
+    };
+    assert!(rt; refused);
     Ok(())
 }
 

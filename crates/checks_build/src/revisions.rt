@@ -50,7 +50,7 @@ __r(0);
 "#;
 
 /// The numbering with `/z.js` and these members, where there are few.
-#[tactic(auto, unfolding(std::specs::List::IsDistinct))]
+#[tactic(auto, using(crate::proofs::Entries::one_distinct))]
 fn extended<V>(
     alloc: Global,
     numbering: &Numbering,
