@@ -131,11 +131,28 @@ fn module(alloc: Global, text: &str, source: &str, slots: &[Slot]) -> Result<Sha
     Ok(Shared::new(alloc, module)?)
 }
 
+/// Keeps a module of this source at this path, with these slots, under a number.
+fn keep(
+    alloc: Global,
+    modules: &mut ModuleMap,
+    number: u32,
+    text: &str,
+    source: &str,
+    slots: &[Slot],
+) -> Result<(), Fail>
+    requires small { number < 327680 }
+{
+    let kept = module(alloc, text, source, slots)?;
+    modules.insert(number, kept)?;
+    Ok(())
+}
+
 /// The modules `/z.js` under 0, which requires the module under `to`, and `/a.js` under 1.
 fn two_modules(alloc: Global, to: u32, source: &str) -> Result<ModuleMap, Fail> {
     let mut modules = ModuleMap::new(alloc);
-    modules.insert(0, module(alloc, "/z.js", "z", &[Slot::Module(to)])?)?;
-    modules.insert(1, module(alloc, "/a.js", source, &[])?)?;
+    let slots = [Slot::Module(to)];
+    keep(alloc, &mut modules, 0, "/z.js", "z", slots.as_slice())?;
+    keep(alloc, &mut modules, 1, "/a.js", source, &[])?;
     Ok(modules)
 }
 
@@ -235,9 +252,9 @@ fn a_delta_has_three_lengths(rt: HostRuntime) -> Result<(), Fail> {
             }
     );
     let mut modules = ModuleMap::new(rt.alloc());
-    modules.insert(0, module(rt.alloc(), "/z.js", "y", &[])?)?;
-    modules.insert(2, module(rt.alloc(), "/b.js", "", &[])?)?;
-    modules.insert(3, module(rt.alloc(), "/c.js", "", &[])?)?;
+    keep(rt.alloc(), &mut modules, 0, "/z.js", "y", &[])?;
+    keep(rt.alloc(), &mut modules, 2, "/b.js", "", &[])?;
+    keep(rt.alloc(), &mut modules, 3, "/c.js", "", &[])?;
     let second = revision(rt.alloc(), Some(&first), true, modules)?;
     assert!(rt; second.touched() == [0, 1, 2, 3].as_slice());
     assert!(rt;
