@@ -1,0 +1,29 @@
+//! Tests of the crates that a build is made of.
+#![tactic(auto)]
+
+#[cfg(test)]
+mod common;
+#[cfg(test)]
+mod dependencies;
+#[cfg(test)]
+mod fault_texts;
+#[cfg(test)]
+mod files;
+#[cfg(test)]
+mod graphs;
+#[cfg(test)]
+mod journals;
+#[cfg(test)]
+mod options;
+#[cfg(test)]
+mod outputs;
+#[cfg(test)]
+mod rescans;
+#[cfg(test)]
+mod resolution;
+#[cfg(test)]
+mod revisions;
+#[cfg(test)]
+mod scripts;
+#[cfg(test)]
+mod writers;
