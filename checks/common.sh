@@ -52,3 +52,14 @@ bundle_of() {
   done
   printf '__r(0);\n'
 }
+
+# files_in FOLDER [NAME BODY]..: makes FOLDER with these files.
+files_in() {
+  local folder="$1"
+  shift
+  mkdir -p "$folder"
+  while [ "$#" -ge 2 ]; do
+    printf '%s' "$2" >"$folder/$1"
+    shift 2
+  done
+}

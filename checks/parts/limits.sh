@@ -13,6 +13,21 @@ bundle_of '@' '' index.js >"$work/frame"
 check "a source of 16777216 bytes is bundled" 0 "$work/wanted" "" "$folder" bundle index.js
 printf ' ' >>"$folder/index.js"
 check "a source of 16777217 bytes meets the limit" 6 "$work/empty" "metro: limit file 16777216" "$folder" bundle index.js
+(cd "$folder" && exec timeout 60 "$metro" bundle index.js) >"$work/out" 2>/dev/full </dev/null
+got=$?
+: >"$work/log"
+log_is ""
+judge "a fault of the log leaves the status of a limit" 6 "$got" "$work/empty"
+
+# A limit comes before the build. A file that is no source is not read.
+files_in "$work/walk" a.js ' '
+cp "$folder/index.js" "$work/walk/b.js"
+check "a source that is not reached meets the limit" 6 "$work/empty" "metro: limit file 16777216" "$work/walk" bundle gone.js
+files_in "$work/unread" b.js ' '
+cp "$folder/index.js" "$work/unread/a.txt"
+check "a file that is no source meets no limit" 1 "$work/empty" "metro: entry /gone.js is not a source file" \
+  "$work/unread" bundle gone.js
+rm -r "$folder" "$work/walk" "$work/unread"
 
 # A file of 20 GB costs no more memory than the limit: the program gets 512 MB of address space.
 folder="$work/huge"
@@ -25,3 +40,26 @@ if truncate -s 20G "$folder/huge.js" 2>/dev/null; then
 else
   skip "a file of 20 GB is refused in little memory" "this file system has no such file"
 fi
+
+# Sources of 1,073,741,824 bytes, and one more: 64 files with holes.
+folder="$work/sum"
+files_in "$folder" index.js '1;'
+bundle_of '1;' '' index.js >"$work/wanted"
+if truncate -s 16777216 "$folder"/{01..63}.js && truncate -s 16777214 "$folder/64.js"; then
+  check "a folder of 1073741824 bytes passes" 0 "$work/wanted" "" "$folder" bundle index.js
+  truncate -s 16777215 "$folder/64.js"
+  check "a folder of 1073741825 bytes meets the limit" 6 "$work/empty" "metro: limit folder-bytes 1073741824" \
+    "$folder" bundle index.js
+else
+  skip "a folder of 1073741824 bytes passes" "this file system has no such files"
+fi
+rm -r "$folder"
+
+# 262,144 files, and one more.
+folder="$work/many"
+files_in "$folder" index.js '1;'
+(cd "$folder" && seq -f '%.0f.txt' 262143 | xargs touch)
+check "262144 files pass" 0 "$work/wanted" "" "$folder" bundle index.js
+touch "$folder/0.txt"
+check "262145 files meet the limit" 6 "$work/empty" "metro: limit files 262144" "$folder" bundle index.js
+rm -r "$folder"

@@ -12,3 +12,7 @@ check "a command without an entry is refused" 2 "$work/empty" "metro: word 2" "$
 check "an option is refused" 2 "$work/empty" "metro: word 2" "$folder" bundle --dev
 check "an entry with a folder above it is refused" 2 "$work/empty" "metro: word 2" "$folder" bundle ../a.js
 check "a word too many is refused" 2 "$work/empty" "metro: word 3" "$folder" bundle a.js b.js
+check "a command of another program is refused" 2 "$work/empty" "metro: word 1" "$folder" deps a.js
+check "an entry that begins with a dash is refused" 2 "$work/empty" "metro: word 2" "$folder" bundle -a.js
+check "an entry with a point before it is refused" 2 "$work/empty" "metro: word 2" "$folder" bundle ./a.js
+check "the first bad word is named" 2 "$work/empty" "metro: word 2" "$folder" bundle / b.js

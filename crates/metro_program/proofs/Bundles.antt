@@ -21,7 +21,7 @@ use Rattle.mt_revision.specs.Revisions.{bundle_of}
 use Rattle.mt_report.specs.Outcomes.{crawl_outcome, status_of}
 use Rattle.mt_report.specs.declared.outcome.Outcome.TheVariants.{Done, NoMemory, Refused, WriteFailed}
 use Rattle.metro_program.specs.declared.state.NextBuild.{NextBuild}
-use Rattle.metro_program.specs.Progress.{Keeps}
+use Rattle.metro_program.specs.Progress.{IsOwn, Keeps}
 use Rattle.metro_program.specs.States.{AreEntries, State, opened}
 use Rattle.metro_program.specs.Builds.{build_with, fresh_build, next_build, numbering_after}
 use Rattle.metro_program.specs.Bundle.{Bundles, HasFirstFault, IsBundle, build_plan, bundle_plan, first_numbering, snapshot_plan}
@@ -119,3 +119,15 @@ built_ok s build (inr h) = sym h
 pub built_err : (s : State) (fault : BuildFault) → (fault ≡ fault_of.NoMemory → ⊥) → IsBuild s (Err fault) → fresh_build s ≡ Err fault
 built_err s fault other (inl h) = absurd (other (let k : fault ≡ fault_of.NoMemory = cc in k))
 built_err s fault other (inr h) = sym h
+
+pub done_own : IsOwn Done
+done_own = (λ (h : 0 ≡ 2). omega (arith, h), λ (h : 0 ≡ 7). omega (arith, h))
+
+pub write_own : IsOwn WriteFailed
+write_own = (λ (h : 4 ≡ 2). omega (arith, h), λ (h : 4 ≡ 7). omega (arith, h))
+
+pub memory_own : IsOwn NoMemory
+memory_own = (λ (h : 5 ≡ 2). omega (arith, h), λ (h : 5 ≡ 7). omega (arith, h))
+
+pub refused_own : (fault : BuildFault) → IsOwn (Refused fault)
+refused_own fault = (λ (h : 1 ≡ 2). omega (arith, h), λ (h : 1 ≡ 7). omega (arith, h))

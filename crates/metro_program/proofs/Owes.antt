@@ -172,10 +172,10 @@ module _ (ask : Ask) (files : Snapshot) (before between after : Lent) (found : O
 -- ---- a bundle
 
 pub bundle_owes :
-    (ask : Ask) (files : Snapshot) (before between after : Lent) (found : Outcome) → ((tree : Files) → Tells before.folder tree → crawled tree ≡ Ok files) → Keeps (snapshot_plan ask (Ok files)) found before.out after.out
+    (ask : Ask) (files : Snapshot) (before after : Lent) (found : Outcome) → ((tree : Files) → Tells before.folder tree → crawled tree ≡ Ok files) → Keeps (snapshot_plan ask (Ok files)) found before.out after.out
     → (found ≡ outcome.ReadFailed → ⊥) → (found ≡ outcome.WriteFailed → Rose before.out.faults after.out.faults) → after.folder.told ≡ before.folder.told → after.folder.beside ≡ before.folder.beside → after.script.beside ≡ before.script.beside
     → after.out.beside ≡ before.out.beside → Owes (λ tree bytes. bundle_plan ask tree) false before after found
-bundle_owes ask files before between after found takes keeps read write told apart_folder apart_script apart_out =
+bundle_owes ask files before after found takes keeps read write told apart_folder apart_script apart_out =
     let k : (tree : Files) → Tells before.folder tree → Keeps (bundle_plan ask tree) found before.out after.out = λ tree tells. subst (λ x. Keeps (snapshot_plan ask x) found before.out after.out) (sym (takes tree tells)) keeps in
     record {
       planned = λ tree bytes given. (k tree given.folder).planned;

@@ -1,5 +1,5 @@
 //! The run of `bundle`.
-ghost use Rattle.std.specs.Prelude.{◌≡◌, ◌≤◌, false};
+ghost use Rattle.std.specs.Prelude.{◌≡◌, ◌≤◌, false, Ok};
 ghost use Rattle.std.specs.FinMap as map;
 ghost use Rattle.mt_io.specs.Causes.{Rose};
 ghost use Rattle.mt_io.specs.Seen.{Seen};
@@ -12,12 +12,26 @@ ghost use Rattle.metro_program.specs.Progress.{IsOwn, Keeps};
 ghost use Rattle.metro_program.specs.States.{opened};
 
 use crate::ask::BuildAsk;
-use crate::state::ReplayState;
+use crate::state::{NextBuild, ReplayState};
 use mt_files::{BuildFault, FileMap, crawl};
 use mt_io::{Folder, Sink};
 use mt_report::Outcome;
 use mt_revision::write_bundle;
 use std::alloc::Global;
+
+/// Writes the bundle of a build.
+fn bundle_build<O: Sink>(build: &NextBuild, out: &mut O) -> Outcome
+    ensures keeps { Keeps (build_plan (Ok build.now)) result (O.seen out.old) (O.seen out.new) }
+    ensures read { result ≡ Outcome.ReadFailed → ⊥ }
+    ensures write { result ≡ Outcome.WriteFailed → Rose (O.seen out.old).faults (O.seen out.new).faults }
+    ensures apart { (O.seen out.new).beside ≡ (O.seen out.old).beside }
+    ensures own { IsOwn result }
+{
+    match write_bundle(&build.revision, out) {
+        Ok(()) => Outcome::Done,
+        Err(_) => Outcome::WriteFailed,
+    }
+}
 
 /// Writes the bundle of the first build of a snapshot.
 fn bundle_files<O: Sink>(alloc: Global, ask: BuildAsk, files: FileMap, out: &mut O) -> Outcome
@@ -29,14 +43,10 @@ fn bundle_files<O: Sink>(alloc: Global, ask: BuildAsk, files: FileMap, out: &mut
     ensures own { IsOwn result }
 {
     let state = ReplayState::new(alloc, ask, files);
-    let build = match state.build(alloc) {
-        Ok(build) => build,
-        Err(BuildFault::NoMemory) => return Outcome::NoMemory,
-        Err(fault) => return Outcome::Refused(fault),
-    };
-    match write_bundle(&build.revision, out) {
-        Ok(()) => Outcome::Done,
-        Err(_) => Outcome::WriteFailed,
+    match state.build(alloc) {
+        Ok(build) => bundle_build(&build, out),
+        Err(BuildFault::NoMemory) => Outcome::NoMemory,
+        Err(fault) => Outcome::Refused(fault),
     }
 }
 

@@ -9,6 +9,8 @@ mod real;
 mod replay;
 mod state;
 mod still;
+#[cfg(test)]
+mod tests;
 mod words;
 
 use mt_io::{FreeGate, send_all};

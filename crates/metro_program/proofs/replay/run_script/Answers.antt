@@ -39,8 +39,8 @@ loop-turn-preserved g c =
     let out_one = c.loop-turn.invariant.out_later in
     let out_two = c.turn.ensures.out_later in
     record {
-      on = λ start begun. c.in_default.ensures.on start (c.loop-turn.invariant.folder.same ∙ begun.folder) (c.loop-turn.invariant.on start begun);
-      going = c.in_default.ensures.going;
+      on = λ start begun. c.in_default-turn.ensures.on start (c.loop-turn.invariant.folder.same ∙ begun.folder) (c.loop-turn.invariant.on start begun);
+      going = c.in_default-turn.ensures.going;
       folder = looks_then (g.F.Folder.seen c.args.folder.now) (g.F.Folder.seen c.loop-turn.folder) (g.F.Folder.seen c.turn.new.folder) c.loop-turn.invariant.folder c.turn.ensures.folder;
       script_later = omega (arith, script_one, script_two);
       script_apart = c.turn.ensures.script_apart ∙ c.loop-turn.invariant.script_apart;
