@@ -1,6 +1,6 @@
 #!/usr/bin/env bash
 # Measures metro on made folders: 1,000, 10,000 and 50,000 small modules that require each other, 64 MB of source in
-# 100 files, and 5,000 modules of 1 KiB beside `cat` of the same files; then replays over 1,000 small modules, of 2,000
+# 100 files, 5,000 modules of 1 KiB beside `cat` of the same files, and 2,000 modules of 1,000 edges; then replays over 1,000 small modules, of 2,000
 # edits that are built one by one and of 65,536 changes. Run by hand, after `rt ci` has left the program, or with
 # METRO_PROGRAM naming another one.
 set -eu
@@ -47,6 +47,21 @@ with open(os.path.join(folder, "index.js"), "w") as index:
 for i in range(count):
     with open(os.path.join(folder, "m%d.js" % i), "w") as file:
         file.write((line * (size // len(line) + 1))[:size - 1] + "\n")
+PY
+}
+
+# dense COUNT EDGES FOLDER: modules that each require so many others, the next ones in a ring.
+dense() {
+  python3 - "$1" "$2" "$3" <<'PY'
+import os, sys
+count, edges, folder = int(sys.argv[1]), int(sys.argv[2]), sys.argv[3]
+os.makedirs(folder, exist_ok=True)
+for i in range(count):
+    with open(os.path.join(folder, "m%d.js" % i), "w") as file:
+        for j in range(1, edges + 1):
+            file.write('require("./m%d.js");\n' % ((i + j) % count))
+with open(os.path.join(folder, "index.js"), "w") as file:
+    file.write('require("./m0.js");\n')
 PY
 }
 
@@ -112,6 +127,10 @@ PY
 )"
 ratio="$(python3 -c "print('%.2f' % ($seconds / $cat_seconds))")"
 echo "5000 modules of 1 KiB: $seconds s, cat of the same files $cat_seconds s, ratio $ratio (wanted: 5), peak $peak KB"
+
+dense 2000 1000 "$work/dense"
+read -r seconds peak <<<"$(timed "$work/dense")"
+echo "2000 modules of 1000 edges each: $seconds s (wanted: 3.6), peak $peak KB (wanted at most 506000)"
 
 # replayed NAME SCRIPT BUILDS: a replay over the 1,000 small modules, beside BUILDS bundles and a replay of `end` alone.
 replayed() {

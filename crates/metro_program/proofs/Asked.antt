@@ -13,13 +13,13 @@ use Rattle.metro_program.specs.Bundle.{Bundles}
 use Rattle.metro_program.specs.Replays.{Replays}
 use Rattle.metro_program.specs.States.{AreEntries}
 use Rattle.metro_program.specs.Still.{words_plan}
-use Rattle.metro_program.specs.Words.{action_of, asked, entry_words, words_of}
+use Rattle.metro_program.specs.Words.{action_of, ask_of, asked, entry_words, words_of}
 use Rattle.metro_program.proofs.AreEntries.{one_entry}
 use Rattle.metro_program.proofs.Bundles.{bundles}
 use Rattle.metro_program.proofs.Replays.{replays}
 
 asked_entry : (action : Action) (entry : Result (List ℕ) WordFault) (request : Request) → asked action entry ≡ Ok request → AreEntries request.ask.entries
-asked_entry action (Ok entry) request e = subst (λ (r : Request). AreEntries r.ask.entries) (let k : _ ≡ request = cc in k) (one_entry entry)
+asked_entry action (Ok entry) request e = let asks : Request = record { action = action; ask = ask_of entry } in let k : asks ≡ request = cc in subst (λ (r : Request). AreEntries r.ask.entries) k (one_entry entry)
 asked_entry action (Err fault) request e = absurd (cc)
 
 named_entry : (action : Option Action) (words : List (List ℕ)) (request : Request) → option_map_or (λ a. asked a (entry_words words)) action (Err (BadWord 1)) ≡ Ok request → AreEntries request.ask.entries
@@ -45,7 +45,3 @@ ReadsWords wanted r = (r ≡ Err NoMemory) ⊎ (r ≡ wanted)
 pub words_ok : (wanted : Result Request WordFault) (request : Request) → ReadsWords wanted (Ok request) → wanted ≡ Ok request
 words_ok wanted request (inl h) = absurd (cc)
 words_ok wanted request (inr h) = sym h
-
-pub words_err : (wanted : Result Request WordFault) (at : ℕ) → ReadsWords wanted (Err (BadWord at)) → wanted ≡ Err (BadWord at)
-words_err wanted at (inl h) = absurd (cc)
-words_err wanted at (inr h) = sym h

@@ -18,8 +18,8 @@ use Rattle.mt_io.specs.Seen.{Seen, Stopped as Began, Wrote}
 use Rattle.mt_io.proofs.Seen.{stopped_all, stopped_none, wrote_none}
 use Rattle.mt_files.specs.declared.build_fault.BuildFault.TheVariants as fault_of
 use Rattle.mt_revision.specs.Revisions.{bundle_of}
-use Rattle.mt_report.specs.Outcomes.{crawl_outcome, status_of}
-use Rattle.mt_report.specs.declared.outcome.Outcome.TheVariants.{Done, NoMemory, Refused, WriteFailed}
+use Rattle.mt_report.specs.Outcomes.{build_outcome, crawl_outcome, status_of}
+use Rattle.mt_report.specs.declared.outcome.Outcome.TheVariants.{Done, NoMemory, ReadFailed, Refused, WriteFailed}
 use Rattle.metro_program.specs.declared.state.NextBuild.{NextBuild}
 use Rattle.metro_program.specs.Progress.{IsOwn, Keeps}
 use Rattle.metro_program.specs.States.{AreEntries, State, opened}
@@ -126,8 +126,14 @@ done_own = (λ (h : 0 ≡ 2). omega (arith, h), λ (h : 0 ≡ 7). omega (arith, 
 pub write_own : IsOwn WriteFailed
 write_own = (λ (h : 4 ≡ 2). omega (arith, h), λ (h : 4 ≡ 7). omega (arith, h))
 
-pub memory_own : IsOwn NoMemory
-memory_own = (λ (h : 5 ≡ 2). omega (arith, h), λ (h : 5 ≡ 7). omega (arith, h))
+refused_by : (s : State) (fault : BuildFault) (out : Seen (List ℕ)) → (fault ≡ fault_of.NoMemory → ⊥) → IsBuild s (Err fault) → Keeps (build_plan (fresh_build s)) (Refused fault) out out
+refused_by s fault out other h = keeps_refused (fresh_build s) fault out (built_err s fault other h)
 
-pub refused_own : (fault : BuildFault) → IsOwn (Refused fault)
-refused_own fault = (λ (h : 1 ≡ 2). omega (arith, h), λ (h : 1 ≡ 7). omega (arith, h))
+-- the build was refused, or memory ran out
+pub keeps_fault_of : (s : State) (fault : BuildFault) (out : Seen (List ℕ)) → IsBuild s (Err fault) → Keeps (build_plan (fresh_build s)) (build_outcome fault) out out
+keeps_fault_of s (fault_of.EntryMissing path) out h = refused_by s (fault_of.EntryMissing path) out (λ e. cc) h
+keeps_fault_of s (fault_of.Source path fault) out h = refused_by s (fault_of.Source path fault) out (λ e. cc) h
+keeps_fault_of s (fault_of.Unresolved path place name) out h = refused_by s (fault_of.Unresolved path place name) out (λ e. cc) h
+keeps_fault_of s (fault_of.Package path place package_path) out h = refused_by s (fault_of.Package path place package_path) out (λ e. cc) h
+keeps_fault_of s fault_of.TooManyModules out h = refused_by s fault_of.TooManyModules out (λ e. cc) h
+keeps_fault_of s fault_of.NoMemory out h = keeps_memory (build_plan (fresh_build s)) out

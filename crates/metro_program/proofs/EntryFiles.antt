@@ -32,9 +32,9 @@ none_at f [] q h k = absurd (cc)
 none_at f (p ∷ ps) q h k =
     let both = none_both (f p) (flat_map f ps) h in
     elim (or_cases (bytes_eq q p) (list_any (bytes_eq q) ps) k) [
-    | inl e ↦ ap f (same_path q p e) ∙ both.0
-    | inr t ↦ none_at f ps q both.1 t
-]
+      | inl e ↦ ap f (same_path q p e) ∙ both.0
+      | inr t ↦ none_at f ps q both.1 t
+    ]
 
 not_many : (b : Bool) (faults : List BuildFault) → cond b (TooManyModules ∷ []) faults ≡ [] → faults ≡ []
 not_many true faults h = absurd (cc)

@@ -351,3 +351,24 @@ opened_fault start ask files lent trouble found after i is begun =
       lines = λ e. absurd (trouble_unread trouble e);
       cut = λ seven. absurd (trouble_own trouble seven);
     })
+
+-- ---- no outcome is that of a bad word
+
+pub own_word : (r : Result (Unit {0}) Outcome) → IfErr r IsOwn → IfErr r (λ found. status_of found ≡ 2 → ⊥)
+own_word (Ok done) h = h
+own_word (Err found) h = h.0
+
+pub script_word : (fault : ScriptFault) → status_of (script_outcome fault) ≡ 2 → ⊥
+script_word (Bad command) h = let z : 7 ≡ 2 = h in omega (arith, z)
+script_word (Cut command) h = let z : 7 ≡ 2 = h in omega (arith, z)
+script_word (FileTooLarge path size) h = let z : 6 ≡ 2 = h in omega (arith, z)
+script_word TooManyCommands h = let z : 6 ≡ 2 = h in omega (arith, z)
+script_word Failed h = let z : 3 ≡ 2 = h in omega (arith, z)
+script_word NoMemory h = let z : 5 ≡ 2 = h in omega (arith, z)
+
+pub trouble_word : (t : Trouble) → status_of (trouble_outcome t) ≡ 2 → ⊥
+trouble_word trouble.Failed h = let z : 4 ≡ 2 = h in omega (arith, z)
+trouble_word trouble.NoMemory h = let z : 5 ≡ 2 = h in omega (arith, z)
+
+pub memory_word : status_of outcome.NoMemory ≡ 2 → ⊥
+memory_word h = let z : 5 ≡ 2 = h in omega (arith, z)

@@ -88,9 +88,9 @@ module _ (before after : Lent) (fault : CrawlFault) (found : Outcome) (is : foun
       → ((tree : Files) (bytes : List ℕ) (f : CrawlFault) → plan tree bytes (Err f) ≡ without_bytes (crawl_outcome f)) → ((tree : Files) (bytes : List ℕ) → meaning tree bytes ≡ plan tree bytes (crawled tree)) → Owes meaning reads before after found
   crawl_owes meaning reads plan errs means =
       let keeps : (tree : Files) (bytes : List ℕ) → Given reads before tree bytes → Keeps (meaning tree bytes) found before.out after.out = λ tree bytes given.
-          subst (λ p. Keeps p found before.out after.out) (sym (means tree bytes))
-          (subst (λ o. Keeps (plan tree bytes (crawled tree)) found before.out o) (sym out)
-          (subst (λ x. Keeps (plan tree bytes (crawled tree)) x before.out before.out) (sym is) (unsnapped (plan tree bytes) (errs tree bytes) tree fault before.out (crawls tree given.folder)))) in
+      subst (λ p. Keeps p found before.out after.out) (sym (means tree bytes))
+      (subst (λ o. Keeps (plan tree bytes (crawled tree)) found before.out o) (sym out)
+      (subst (λ x. Keeps (plan tree bytes (crawled tree)) x before.out before.out) (sym is) (unsnapped (plan tree bytes) (errs tree bytes) tree fault before.out (crawls tree given.folder)))) in
       record {
         planned = λ tree bytes given. (keeps tree bytes given).planned;
         written = λ tree bytes given. (keeps tree bytes given).written;
@@ -296,6 +296,16 @@ unread_comes request lent = record {
   refused = λ fault e. inr refl;
   word = λ two. absurd (let z : 5 ≡ 2 = two in omega (arith, z));
 }
+
+-- what a reader of words answers
+abbrev pub Refuses : Result Request WordFault → Result Request WordFault → Type 0
+Refuses request r = (r ≡ Err word.NoMemory) ⊎ (r ≡ request)
+
+pub refused_comes : (request : Result Request WordFault) (fault : WordFault) (found : Outcome) (lent : Lent) → Refuses request (Err fault) → found ≡ word_outcome fault → Comes request lent lent found
+refused_comes request fault found lent (inl h) is =
+    let none : fault ≡ word.NoMemory = cc in
+    subst (Comes request lent lent) (sym (is ∙ ap word_outcome none)) (unread_comes request lent)
+refused_comes request fault found lent (inr h) is = subst (Comes request lent lent) (sym is) (fault_comes request fault lent (sym h))
 
 -- the run, once its line is on the log
 pub runs_of :

@@ -70,11 +70,7 @@ fn pass<O: Sink>(
 /// Builds, and writes the line of the build. Refused only where memory runs out or the output fails: then a prefix of the
 /// line was written, or nothing.
 #[tactic(auto, using(mt_io::proofs::Seen::stopped_none))]
-pub fn build<O: Sink>(
-    alloc: Global,
-    state: &mut ReplayState,
-    out: &mut O,
-) -> Result<(), Trouble>
+pub fn build<O: Sink>(alloc: Global, state: &mut ReplayState, out: &mut O) -> Result<(), Trouble>
     ensures state { OnOk result (state.new ≡ (asked_step state.old).state) }
     ensures writes { WritesOrLacks (O.seen out.old) (O.seen out.new) (lines_after state.old.latest (asked_step state.old).answers) result }
 {

@@ -7,13 +7,14 @@ ghost use Rattle.mt_io.specs.Told.{Reading};
 ghost use Rattle.mt_files.specs.Crawl.{max_files};
 ghost use Rattle.metro_program.specs.Builds.{fresh_build};
 ghost use Rattle.metro_program.specs.Bundle.{build_plan, bundle_plan};
+ghost use Rattle.metro_program.specs.Lent.{lent};
 ghost use Rattle.metro_program.specs.Owes.{Owes};
 ghost use Rattle.metro_program.specs.Progress.{IsOwn, Keeps};
 ghost use Rattle.metro_program.specs.States.{opened};
 
 use crate::ask::BuildAsk;
 use crate::state::{NextBuild, ReplayState};
-use mt_files::{BuildFault, FileMap, crawl};
+use mt_files::{FileMap, crawl};
 use mt_io::{Folder, Sink};
 use mt_report::Outcome;
 use mt_revision::write_bundle;
@@ -45,8 +46,7 @@ fn bundle_files<O: Sink>(alloc: Global, ask: BuildAsk, files: FileMap, out: &mut
     let state = ReplayState::new(alloc, ask, files);
     match state.build(alloc) {
         Ok(build) => bundle_build(&build, out),
-        Err(BuildFault::NoMemory) => Outcome::NoMemory,
-        Err(fault) => Outcome::Refused(fault),
+        Err(fault) => Outcome::from(fault),
     }
 }
 
@@ -57,7 +57,7 @@ pub fn run_bundle<F: Folder, O: Sink>(
     folder: &mut F,
     out: &mut O,
 ) -> Outcome
-    ensures owes { (script : Seen Reading) → Owes (λ tree bytes. bundle_plan ask tree) false (record { folder = F.seen folder.old; script = script; out = O.seen out.old }) (record { folder = F.seen folder.new; script = script; out = O.seen out.new }) result }
+    ensures owes { (script : Seen Reading) → Owes (λ tree bytes. bundle_plan ask tree) false (lent (F.seen folder.old) script (O.seen out.old)) (lent (F.seen folder.new) script (O.seen out.new)) result }
     ensures own { IsOwn result }
 {
     match crawl(alloc, folder) {

@@ -5,8 +5,10 @@ ghost use Rattle.mt_io.specs.Causes.{Rose};
 ghost use Rattle.mt_io.specs.Files.{Files};
 ghost use Rattle.mt_io.specs.Seen.{Looks, Tells};
 ghost use Rattle.mt_files.specs.Crawl.{max_files};
+ghost use Rattle.mt_report.specs.Outcomes.{IsBadWord};
 ghost use Rattle.mt_script.specs.Commands.{GoesOn, IsCommand};
 ghost use Rattle.metro_program.specs.Commands.{moved};
+ghost use Rattle.metro_program.specs.Lent.{lent};
 ghost use Rattle.metro_program.specs.Owes.{Owes};
 ghost use Rattle.metro_program.specs.Progress.{Ends, Halted, HasDone, IsBegun, IsOwn, IsStart, ReadsScript, Start, Went};
 ghost use Rattle.metro_program.specs.Replay.{replay_plan};
@@ -59,10 +61,11 @@ fn turn<F: Folder, I: Source, O: Sink>(
 ) -> Result<(), Outcome>
     requires going { reader.old.fault ≡ None }
     ensures on { (start : Start) → (F.seen folder.old).told ≡ start.lent.folder.told → HasDone start state.old reader.old (I.seen script.old).told (O.seen out.old) → OnOk result (HasDone start state.new reader.new (I.seen script.new).told (O.seen out.new)) }
-    ensures ends { (start : Start) → (F.seen folder.old).told ≡ start.lent.folder.told → start.lent.folder.faults ≤ (F.seen folder.old).faults → HasDone start state.old reader.old (I.seen script.old).told (O.seen out.old) → IfErr result (λ outcome. Ends start outcome (record { folder = F.seen folder.new; script = I.seen script.new; out = O.seen out.new })) }
+    ensures ends { (start : Start) → (F.seen folder.old).told ≡ start.lent.folder.told → start.lent.folder.faults ≤ (F.seen folder.old).faults → HasDone start state.old reader.old (I.seen script.old).told (O.seen out.old) → IfErr result (λ outcome. Ends start outcome (lent (F.seen folder.new) (I.seen script.new) (O.seen out.new))) }
     ensures going { OnOk result (reader.new.fault ≡ None) }
     ensures read { IfErr result (λ outcome. outcome ≡ Outcome.ReadFailed → Rose (F.seen folder.old).faults (F.seen folder.new).faults ⊎ Rose (I.seen script.old).faults (I.seen script.new).faults) }
     ensures write { IfErr result (λ outcome. outcome ≡ Outcome.WriteFailed → Rose (O.seen out.old).faults (O.seen out.new).faults) }
+    ensures word { IfErr result (λ outcome. IsBadWord outcome → ⊥) }
     ensures folder { Looks (F.seen folder.old) (F.seen folder.new) ⊥ }
     ensures script_later { (I.seen script.old).faults ≤ (I.seen script.new).faults }
     ensures script_apart { (I.seen script.new).beside ≡ (I.seen script.old).beside }
@@ -83,9 +86,10 @@ fn run_script<F: Folder, I: Source, O: Sink>(
     script: &mut I,
     out: &mut O,
 ) -> Outcome
-    ensures ends { (start : Start) → IsBegun start state (record { folder = F.seen folder.old; script = I.seen script.old; out = O.seen out.old }) → Ends start result (record { folder = F.seen folder.new; script = I.seen script.new; out = O.seen out.new }) }
+    ensures ends { (start : Start) → IsBegun start state (lent (F.seen folder.old) (I.seen script.old) (O.seen out.old)) → Ends start result (lent (F.seen folder.new) (I.seen script.new) (O.seen out.new)) }
     ensures read { result ≡ Outcome.ReadFailed → Rose (F.seen folder.old).faults (F.seen folder.new).faults ⊎ Rose (I.seen script.old).faults (I.seen script.new).faults }
     ensures write { result ≡ Outcome.WriteFailed → Rose (O.seen out.old).faults (O.seen out.new).faults }
+    ensures word { IsBadWord result → ⊥ }
     ensures folder { Looks (F.seen folder.old) (F.seen folder.new) ⊥ }
     ensures script_apart { (I.seen script.new).beside ≡ (I.seen script.old).beside }
     ensures out_later { (O.seen out.old).faults ≤ (O.seen out.new).faults }
@@ -114,9 +118,10 @@ fn replay_files<F: Folder, I: Source, O: Sink>(
     out: &mut O,
 ) -> Outcome
     requires few { map.len files ≤ max_files }
-    ensures ends { (start : Start) → IsStart start ask files (record { folder = F.seen folder.old; script = I.seen script.old; out = O.seen out.old }) → Ends start result (record { folder = F.seen folder.new; script = I.seen script.new; out = O.seen out.new }) }
+    ensures ends { (start : Start) → IsStart start ask files (lent (F.seen folder.old) (I.seen script.old) (O.seen out.old)) → Ends start result (lent (F.seen folder.new) (I.seen script.new) (O.seen out.new)) }
     ensures read { result ≡ Outcome.ReadFailed → Rose (F.seen folder.old).faults (F.seen folder.new).faults ⊎ Rose (I.seen script.old).faults (I.seen script.new).faults }
     ensures write { result ≡ Outcome.WriteFailed → Rose (O.seen out.old).faults (O.seen out.new).faults }
+    ensures word { IsBadWord result → ⊥ }
     ensures folder { Looks (F.seen folder.old) (F.seen folder.new) ⊥ }
     ensures script_apart { (I.seen script.new).beside ≡ (I.seen script.old).beside }
     ensures out_apart { (O.seen out.new).beside ≡ (O.seen out.old).beside }
@@ -136,8 +141,9 @@ pub fn run_replay<F: Folder, I: Source, O: Sink>(
     script: &mut I,
     out: &mut O,
 ) -> Outcome
-    ensures owes { Owes (replay_plan ask) true (record { folder = F.seen folder.old; script = I.seen script.old; out = O.seen out.old }) (record { folder = F.seen folder.new; script = I.seen script.new; out = O.seen out.new }) result }
-    ensures script { ReadsScript ask (record { folder = F.seen folder.old; script = I.seen script.old; out = O.seen out.old }) (record { folder = F.seen folder.new; script = I.seen script.new; out = O.seen out.new }) result }
+    ensures owes { Owes (replay_plan ask) true (lent (F.seen folder.old) (I.seen script.old) (O.seen out.old)) (lent (F.seen folder.new) (I.seen script.new) (O.seen out.new)) result }
+    ensures word { IsBadWord result → ⊥ }
+    ensures script { ReadsScript ask (lent (F.seen folder.old) (I.seen script.old) (O.seen out.old)) (lent (F.seen folder.new) (I.seen script.new) (O.seen out.new)) result }
 {
     match crawl(alloc, folder) {
         Ok(files) => replay_files(alloc, ask, files, folder, script, out),

@@ -11,11 +11,11 @@ ghost use Rattle.metro_program.specs.Replays.{Replays};
 ghost use Rattle.metro_program.specs.Still.{words_plan, words_read};
 ghost use Rattle.mt_report.specs.Outcomes.{IsBadWord, line_of};
 ghost use Rattle.mt_io.specs.Seen.{Wrote};
-ghost use Rattle.metro_program.specs.Lent.{Stood};
+ghost use Rattle.metro_program.specs.Lent.{Stood, lent};
 
 use crate::bundle::run_bundle;
 use crate::replay::run_replay;
-use crate::words::{Action, Request, WordFault, read_words};
+use crate::words::{Action, Request, read_words};
 use mt_io::{Folder, Gate, Sink, Source, Store, send_all};
 use mt_report::Outcome;
 use mt_tokens::Text;
@@ -30,8 +30,8 @@ fn run<F: Folder, I: Source, O: Sink>(
     script: &mut I,
     out: &mut O,
 ) -> Outcome
-    ensures owes { Owes (words_plan (Ok request)) (words_read (Ok request)) (record { folder = F.seen folder.old; script = I.seen script.old; out = O.seen out.old }) (record { folder = F.seen folder.new; script = I.seen script.new; out = O.seen out.new }) result }
-    ensures script { request.action ≡ Action.Replay → ReadsScript request.ask (record { folder = F.seen folder.old; script = I.seen script.old; out = O.seen out.old }) (record { folder = F.seen folder.new; script = I.seen script.new; out = O.seen out.new }) result }
+    ensures owes { Owes (words_plan (Ok request)) (words_read (Ok request)) (lent (F.seen folder.old) (I.seen script.old) (O.seen out.old)) (lent (F.seen folder.new) (I.seen script.new) (O.seen out.new)) result }
+    ensures script { request.action ≡ Action.Replay → ReadsScript request.ask (lent (F.seen folder.old) (I.seen script.old) (O.seen out.old)) (lent (F.seen folder.new) (I.seen script.new) (O.seen out.new)) result }
     ensures unasked { words_read (Ok request) ≡ false → script.new ≡ script.old }
     ensures word { IsBadWord result → ⊥ }
 {
@@ -50,14 +50,13 @@ fn run_words<F: Folder, I: Source, O: Sink>(
     script: &mut I,
     out: &mut O,
 ) -> Outcome
-    ensures comes { Comes (words_of words.now) (record { folder = F.seen folder.old; script = I.seen script.old; out = O.seen out.old }) (record { folder = F.seen folder.new; script = I.seen script.new; out = O.seen out.new }) result }
+    ensures comes { Comes (words_of words.now) (lent (F.seen folder.old) (I.seen script.old) (O.seen out.old)) (lent (F.seen folder.new) (I.seen script.new) (O.seen out.new)) result }
     ensures unread { IsErr (words_of words.now) → (folder.new ≡ folder.old) × (out.new ≡ out.old) }
     ensures unasked { words_read (words_of words.now) ≡ false → script.new ≡ script.old }
 {
     match read_words(alloc, words) {
         Ok(request) => run(alloc, request, folder, script, out),
-        Err(WordFault::BadWord(at)) => Outcome::BadWord(at),
-        Err(WordFault::NoMemory) => Outcome::NoMemory,
+        Err(fault) => Outcome::from(fault),
     }
 }
 
@@ -106,7 +105,7 @@ pub fn metro_still<
     _gate: &G,
 ) -> u8
     // What is asked for is done, and each answer has its reason.
-    ensures run { Runs (words_of words.now) (record { folder = F.seen folder.old; script = I.seen script.old; out = O.seen out.old }) (record { folder = F.seen folder.new; script = I.seen script.new; out = O.seen out.new }) (E.seen log.old) (E.seen log.new) result }
+    ensures run { Runs (words_of words.now) (lent (F.seen folder.old) (I.seen script.old) (O.seen out.old)) (lent (F.seen folder.new) (I.seen script.new) (O.seen out.new)) (E.seen log.old) (E.seen log.new) result }
 
     // What the plans of the commands say.
     ensures bundle { (ask : Ask) (tree : Files) (bytes : List ℕ) → words_of words.now ≡ Ok (record { action = Action.Bundle; ask = ask }) → Bundles ask tree (words_plan (words_of words.now) tree bytes) }

@@ -4,6 +4,7 @@ ghost use Rattle.metro_program.specs.Words.{action_of, ask_of, entry_of, entry_w
 
 use crate::ask::BuildAsk;
 use mt_path::{Path, PathFault};
+use mt_report::Outcome;
 use mt_tokens::Text;
 use std::alloc::{AllocError, Global};
 use thiserror::Error;
@@ -45,6 +46,21 @@ impl From<AllocError> for WordFault {
 
     fn from(_: AllocError) -> WordFault {
         WordFault::NoMemory
+    }
+}
+
+/// How a run ends where the words ask for nothing.
+impl From<WordFault> for Outcome {
+    ghost use Rattle.std.specs.Prelude.{◌≡◌};
+    ghost use Rattle.metro_program.specs.Still.{word_outcome};
+
+    ghost from_gives = { λ fault outcome. outcome ≡ word_outcome fault };
+
+    fn from(fault: WordFault) -> Outcome {
+        match fault {
+            WordFault::BadWord(at) => Outcome::BadWord(at),
+            WordFault::NoMemory => Outcome::NoMemory,
+        }
     }
 }
 

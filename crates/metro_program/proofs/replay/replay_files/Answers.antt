@@ -3,7 +3,8 @@ use Rattle.mt_io.specs.Seen.{Stopped, Wrote}
 use Rattle.metro_program.specs.Builds.{asked_step}
 use Rattle.metro_program.specs.Replay.{lines_after}
 use Rattle.metro_program.specs.States.{opened}
-use Rattle.metro_program.proofs.HasDone.{opened_begun, opened_fault}
+use Rattle.metro_program.proofs.HasDone.{opened_begun, opened_fault, trouble_word}
+use Rattle.mt_report.specs.Outcomes.{status_of}
 use Rattle.metro_program.proofs.Writes.{lacks_apart}
 use Rattle.metro_program.proofs.replay.replay_files.Goals as goal
 
@@ -25,3 +26,6 @@ returns-in-Ok-clause-out_apart g c = c.run_script.ensures.out_apart ∙ lacks_ap
 
 pub returns-in-Err-clause-out_apart : goal.returns-in-Err-clause-out_apart
 returns-in-Err-clause-out_apart g c = lacks_apart (g.O.Sink.seen c.args.out.now) (g.O.Sink.seen c.build.new.out) _ c.build.result c.build.ensures.writes
+
+pub returns-in-Err-clause-word : goal.returns-in-Err-clause-word
+returns-in-Err-clause-word g c = λ two. trouble_word c.in-Err.trouble (sym (ap status_of c.from.ensures) ∙ two)

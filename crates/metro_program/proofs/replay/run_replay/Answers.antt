@@ -1,5 +1,6 @@
-use Rattle.std.proofs.Common.{refl, true}
-use Rattle.metro_program.proofs.Owes.{crawl_looks, crawl_owes, crawl_reads, crawl_takes, replay_owes, replay_reads}
+use Rattle.std.proofs.Common.{refl, true, ap, sym, ◌∙◌}
+use Rattle.metro_program.proofs.Owes.{crawl_looks, crawl_own, crawl_owes, crawl_reads, crawl_takes, replay_owes, replay_reads}
+use Rattle.mt_report.specs.Outcomes.{status_of}
 use Rattle.metro_program.specs.Replay.{files_plan, replay_plan}
 use Rattle.metro_program.proofs.replay.run_replay.Goals as goal
 
@@ -34,3 +35,6 @@ returns-in-Err-clause-script g c =
     (record { folder = g.F.Folder.seen c.args.folder.now; script = g.I.Source.seen c.args.script.now; out = g.O.Sink.seen c.args.out.now })
     (record { folder = g.F.Folder.seen c.crawl.new.folder; script = g.I.Source.seen c.args.script.now; out = g.O.Sink.seen c.args.out.now })
     c.in-Err.fault c.from.result c.from.ensures c.in-Err.ensures.exact (crawl_looks _ _ c.in-Err.fault c.crawl.result c.in-Err.is c.crawl.ensures.looks) refl refl c.args.ask
+
+pub returns-in-Err-clause-word : goal.returns-in-Err-clause-word
+returns-in-Err-clause-word g c = λ two. (crawl_own c.in-Err.fault).0 (sym (ap status_of c.from.ensures) ∙ two)

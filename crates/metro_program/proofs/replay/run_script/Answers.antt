@@ -1,6 +1,6 @@
 use Rattle.std.proofs.Common.{None, [], ap, sym, subst, refl, ◌∙◌, ◌≤◌, arith}
 use Rattle.metro_program.specs.Progress.{Ends}
-use Rattle.metro_program.proofs.HasDone.{first_done, memory_ends}
+use Rattle.metro_program.proofs.HasDone.{first_done, memory_ends, memory_word}
 use Rattle.metro_program.proofs.Writes.{looks_none, looks_then}
 use Rattle.metro_program.proofs.replay.run_script.Goals as goal
 
@@ -47,3 +47,12 @@ loop-turn-preserved g c =
       out_later = omega (arith, out_one, out_two);
       out_apart = c.turn.ensures.out_apart ∙ c.loop-turn.invariant.out_apart;
     }
+
+pub returns-in-Err-clause-word : goal.returns-in-Err-clause-word
+returns-in-Err-clause-word g c = c.in-Err.ensures.word
+
+pub returns-clause-word : goal.returns-clause-word
+returns-clause-word g c = memory_word
+
+pub returns-in_default-clause-word : goal.returns-in_default-clause-word
+returns-in_default-clause-word g c = memory_word

@@ -1,6 +1,7 @@
 use Rattle.std.proofs.Common.{Err, ap, sym, subst, ◌∙◌}
 use Rattle.mt_io.specs.Seen.{Tells}
-use Rattle.metro_program.proofs.HasDone.{turn_err, turn_on, turn_stopped}
+use Rattle.metro_program.proofs.HasDone.{own_word, script_word, turn_err, turn_on, turn_stopped}
+use Rattle.mt_report.specs.Outcomes.{status_of}
 use Rattle.metro_program.proofs.replay.turn.Goals as goal
 
 pub returns-in-Ok-clause-on : goal.returns-in-Ok-clause-on
@@ -23,3 +24,9 @@ returns-in-Err-clause-ends g c = λ start told faults done.
     (record { folder = g.F.Folder.seen c.args.folder.now; script = g.I.Source.seen c.next.new.source; out = g.O.Sink.seen c.args.out.now })
     c.from.ensures (λ i. g.O.Sink.seen c.args.out.now)
     (λ r is. c.in-Err.ensures.refused r is c.requires.going) (λ r is failed. c.in-Err.ensures.interrupted r is c.requires.going (ap Err failed))
+
+pub returns-in-Ok-clause-word : goal.returns-in-Ok-clause-word
+returns-in-Ok-clause-word g c = own_word c.carry_out.result c.carry_out.ensures.own
+
+pub returns-in-Err-clause-word : goal.returns-in-Err-clause-word
+returns-in-Err-clause-word g c = λ two. script_word c.in-Err.fault (sym (ap status_of c.from.ensures) ∙ two)
