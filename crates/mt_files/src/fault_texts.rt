@@ -158,7 +158,7 @@ fn bad_package(alloc: Global, path: &Path, place: u32, file: &Path) -> Result<St
 /// a byte offset from 0. In a name that leads nowhere `\` and `"` have a `\` before them, and a control character is
 /// written as `\x` with two hexadecimal digits.
 ///
-/// Refused only for want of memory.
+/// The one refusal is out of memory.
 pub fn fault_text(alloc: Global, fault: &BuildFault) -> Result<Text, AllocError>
     ensures exact { IfOk result (λ text. text ≡ text_of fault.now) }
 {

@@ -42,7 +42,7 @@ pub enum Outcome {
     NoMemory,
     /// A stated limit was met.
     Limit(Limit),
-    /// The script has something else in the place of a command: its number, from 1.
+    /// The script has a command that is none: its number, from 1.
     BadCommand(u32),
     /// The script ended in a command, or before an `end`: the number of the command, from 1.
     CutCommand(u32),

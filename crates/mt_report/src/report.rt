@@ -33,7 +33,7 @@ fn sum_bundle(alloc: Global, revision: &Revision) -> Result<BundleSum, AllocErro
     Ok(BundleSum { length, digest })
 }
 
-/// The line of a revision with this number, so many changes and modules, and these lengths of a delta.
+/// The line of a revision with this number, this number of changes and of modules, and these lengths of a delta.
 fn figures_line(
     alloc: Global,
     number: u32,
@@ -95,7 +95,7 @@ pub fn same_line(alloc: Global, number: u32) -> Result<Text, AllocError>
     Ok(Text::from_string(format!(in alloc; "same {number}\n")?))
 }
 
-/// The line of a build that was refused once so many changes were accepted.
+/// The line of a build that was refused when this many changes were accepted.
 pub fn refused_line(alloc: Global, changes: usize, fault: &BuildFault) -> Result<Text, AllocError>
     ensures line { IfOk result (λ line. line ≡ refused_line changes fault.now) }
 {

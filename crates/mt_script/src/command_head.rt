@@ -13,7 +13,7 @@ use std::alloc::{AllocError, Global};
 pub(crate) enum CommandHead {
     /// The line is all of this command.
     Whole(Command),
-    /// The line is that of a `put` of this path, and so many bytes follow it.
+    /// The line is that of a `put` of this path, and this number of bytes follows it.
     Put(Path, u32),
 }
 

@@ -16,7 +16,7 @@ pub const MAX_LINE_BYTES: usize = 1100;
 /// How the line at the start of some bytes ends.
 #[derive(Clone, Copy, Debug)]
 pub(crate) enum LineEnd {
-    /// A line feed follows so many bytes.
+    /// A line feed stands after this number of bytes.
     Whole(usize),
     /// There are more bytes than a line has, and no line feed in time.
     TooLong,
