@@ -57,7 +57,8 @@ pub fn run_bundle<F: Folder, O: Sink>(
     folder: &mut F,
     out: &mut O,
 ) -> Outcome
-    ensures owes { (script : Seen Reading) → Owes (λ tree bytes. bundle_plan ask tree) false (lent (F.seen folder.old) script (O.seen out.old)) (lent (F.seen folder.new) script (O.seen out.new)) result }
+    ensures owes { (script : Seen Reading) → Owes (λ tree bytes. bundle_plan ask tree) false
+        (lent (F.seen folder.old) script (O.seen out.old)) (lent (F.seen folder.new) script (O.seen out.new)) result }
     ensures own { IsOwn result }
 {
     match crawl(alloc, folder) {

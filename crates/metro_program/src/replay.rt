@@ -31,9 +31,12 @@ fn carry_out<F: Folder, O: Sink>(
     out: &mut O,
 ) -> Result<(), Outcome>
     requires command { IsCommand command }
-    ensures went { (tree : Files) → Tells (F.seen folder.old) tree → OnOk result (Went (moved tree state.old command) state.old state.new (O.seen out.old) (O.seen out.new)) }
-    ensures halted { (tree : Files) → Tells (F.seen folder.old) tree → IfErr result (λ outcome. Halted (moved tree state.old command) state.old outcome (O.seen out.old) (O.seen out.new)) }
-    ensures read { IfErr result (λ outcome. outcome ≡ Outcome.ReadFailed → (command ≡ Command.Rescan) × Rose (F.seen folder.old).faults (F.seen folder.new).faults × (O.seen out.new ≡ O.seen out.old)) }
+    ensures went { (tree : Files) → Tells (F.seen folder.old) tree
+        → OnOk result (Went (moved tree state.old command) state.old state.new (O.seen out.old) (O.seen out.new)) }
+    ensures halted { (tree : Files) → Tells (F.seen folder.old) tree
+        → IfErr result (λ outcome. Halted (moved tree state.old command) state.old outcome (O.seen out.old) (O.seen out.new)) }
+    ensures read { IfErr result (λ outcome. outcome ≡ Outcome.ReadFailed
+        → (command ≡ Command.Rescan) × Rose (F.seen folder.old).faults (F.seen folder.new).faults × (O.seen out.new ≡ O.seen out.old)) }
     ensures write { IfErr result (λ outcome. outcome ≡ Outcome.WriteFailed → Rose (O.seen out.old).faults (O.seen out.new).faults) }
     ensures goes { OnOk result (GoesOn command) }
     ensures own { IfErr result IsOwn }
@@ -60,10 +63,16 @@ fn turn<F: Folder, I: Source, O: Sink>(
     out: &mut O,
 ) -> Result<(), Outcome>
     requires going { reader.old.fault ≡ None }
-    ensures on { (start : Start) → (F.seen folder.old).told ≡ start.lent.folder.told → HasDone start state.old reader.old (I.seen script.old).told (O.seen out.old) → OnOk result (HasDone start state.new reader.new (I.seen script.new).told (O.seen out.new)) }
-    ensures ends { (start : Start) → (F.seen folder.old).told ≡ start.lent.folder.told → start.lent.folder.faults ≤ (F.seen folder.old).faults → HasDone start state.old reader.old (I.seen script.old).told (O.seen out.old) → IfErr result (λ outcome. Ends start outcome (lent (F.seen folder.new) (I.seen script.new) (O.seen out.new))) }
+    ensures on { (start : Start) → (F.seen folder.old).told ≡ start.lent.folder.told
+        → HasDone start state.old reader.old (I.seen script.old).told (O.seen out.old)
+        → OnOk result (HasDone start state.new reader.new (I.seen script.new).told (O.seen out.new)) }
+    ensures ends { (start : Start) → (F.seen folder.old).told ≡ start.lent.folder.told
+        → start.lent.folder.faults ≤ (F.seen folder.old).faults
+        → HasDone start state.old reader.old (I.seen script.old).told (O.seen out.old)
+        → IfErr result (λ outcome. Ends start outcome (lent (F.seen folder.new) (I.seen script.new) (O.seen out.new))) }
     ensures going { OnOk result (reader.new.fault ≡ None) }
-    ensures read { IfErr result (λ outcome. outcome ≡ Outcome.ReadFailed → Rose (F.seen folder.old).faults (F.seen folder.new).faults ⊎ Rose (I.seen script.old).faults (I.seen script.new).faults) }
+    ensures read { IfErr result (λ outcome. outcome ≡ Outcome.ReadFailed
+        → Rose (F.seen folder.old).faults (F.seen folder.new).faults ⊎ Rose (I.seen script.old).faults (I.seen script.new).faults) }
     ensures write { IfErr result (λ outcome. outcome ≡ Outcome.WriteFailed → Rose (O.seen out.old).faults (O.seen out.new).faults) }
     ensures word { IfErr result (λ outcome. IsBadWord outcome → ⊥) }
     ensures folder { Looks (F.seen folder.old) (F.seen folder.new) ⊥ }
@@ -86,8 +95,10 @@ fn run_script<F: Folder, I: Source, O: Sink>(
     script: &mut I,
     out: &mut O,
 ) -> Outcome
-    ensures ends { (start : Start) → IsBegun start state (lent (F.seen folder.old) (I.seen script.old) (O.seen out.old)) → Ends start result (lent (F.seen folder.new) (I.seen script.new) (O.seen out.new)) }
-    ensures read { result ≡ Outcome.ReadFailed → Rose (F.seen folder.old).faults (F.seen folder.new).faults ⊎ Rose (I.seen script.old).faults (I.seen script.new).faults }
+    ensures ends { (start : Start) → IsBegun start state (lent (F.seen folder.old) (I.seen script.old) (O.seen out.old))
+        → Ends start result (lent (F.seen folder.new) (I.seen script.new) (O.seen out.new)) }
+    ensures read { result ≡ Outcome.ReadFailed → Rose (F.seen folder.old).faults (F.seen folder.new).faults
+        ⊎ Rose (I.seen script.old).faults (I.seen script.new).faults }
     ensures write { result ≡ Outcome.WriteFailed → Rose (O.seen out.old).faults (O.seen out.new).faults }
     ensures word { IsBadWord result → ⊥ }
     ensures folder { Looks (F.seen folder.old) (F.seen folder.new) ⊥ }
@@ -104,7 +115,7 @@ fn run_script<F: Folder, I: Source, O: Sink>(
             return outcome;
         }
     }
-    // No run gets here: a script has at most so many commands.
+    // No run gets here: a script has at most this many commands.
     Outcome::NoMemory
 }
 
@@ -118,8 +129,10 @@ fn replay_files<F: Folder, I: Source, O: Sink>(
     out: &mut O,
 ) -> Outcome
     requires few { map.len files ≤ max_files }
-    ensures ends { (start : Start) → IsStart start ask files (lent (F.seen folder.old) (I.seen script.old) (O.seen out.old)) → Ends start result (lent (F.seen folder.new) (I.seen script.new) (O.seen out.new)) }
-    ensures read { result ≡ Outcome.ReadFailed → Rose (F.seen folder.old).faults (F.seen folder.new).faults ⊎ Rose (I.seen script.old).faults (I.seen script.new).faults }
+    ensures ends { (start : Start) → IsStart start ask files (lent (F.seen folder.old) (I.seen script.old) (O.seen out.old))
+        → Ends start result (lent (F.seen folder.new) (I.seen script.new) (O.seen out.new)) }
+    ensures read { result ≡ Outcome.ReadFailed → Rose (F.seen folder.old).faults (F.seen folder.new).faults
+        ⊎ Rose (I.seen script.old).faults (I.seen script.new).faults }
     ensures write { result ≡ Outcome.WriteFailed → Rose (O.seen out.old).faults (O.seen out.new).faults }
     ensures word { IsBadWord result → ⊥ }
     ensures folder { Looks (F.seen folder.old) (F.seen folder.new) ⊥ }
@@ -141,9 +154,11 @@ pub fn run_replay<F: Folder, I: Source, O: Sink>(
     script: &mut I,
     out: &mut O,
 ) -> Outcome
-    ensures owes { Owes (replay_plan ask) true (lent (F.seen folder.old) (I.seen script.old) (O.seen out.old)) (lent (F.seen folder.new) (I.seen script.new) (O.seen out.new)) result }
+    ensures owes { Owes (replay_plan ask) true (lent (F.seen folder.old) (I.seen script.old) (O.seen out.old))
+        (lent (F.seen folder.new) (I.seen script.new) (O.seen out.new)) result }
     ensures word { IsBadWord result → ⊥ }
-    ensures script { ReadsScript ask (lent (F.seen folder.old) (I.seen script.old) (O.seen out.old)) (lent (F.seen folder.new) (I.seen script.new) (O.seen out.new)) result }
+    ensures script { ReadsScript ask (lent (F.seen folder.old) (I.seen script.old) (O.seen out.old))
+        (lent (F.seen folder.new) (I.seen script.new) (O.seen out.new)) result }
 {
     match crawl(alloc, folder) {
         Ok(files) => replay_files(alloc, ask, files, folder, script, out),

@@ -136,7 +136,9 @@ impl ReplayState {
 
     /// Changes the files to what the folder has.
     pub fn rescan<F: Folder>(&mut self, alloc: Global, folder: &mut F) -> Result<(), Outcome>
-        ensures exact { (tree : Files) → Tells (F.seen folder.old) tree → (result ≡ Err Outcome.NoMemory) ⊎ (result ≡ Err Outcome.ReadFailed) ⊎ IsMove (rescanned_by self.old (rescanned self.old.files tree)) self.new result }
+        ensures exact { (tree : Files) → Tells (F.seen folder.old) tree
+            → (result ≡ Err Outcome.NoMemory) ⊎ (result ≡ Err Outcome.ReadFailed)
+            ⊎ IsMove (rescanned_by self.old (rescanned self.old.files tree)) self.new result }
         ensures limited { IfErr result (λ outcome. (outcome ≡ Outcome.ReadFailed) ⊎ IsLimited outcome) }
         ensures looks { Looks (F.seen folder.old) (F.seen folder.new) (IsErrOf result Outcome.ReadFailed) }
     {

@@ -30,8 +30,12 @@ fn run<F: Folder, I: Source, O: Sink>(
     script: &mut I,
     out: &mut O,
 ) -> Outcome
-    ensures owes { Owes (words_plan (Ok request)) (words_read (Ok request)) (lent (F.seen folder.old) (I.seen script.old) (O.seen out.old)) (lent (F.seen folder.new) (I.seen script.new) (O.seen out.new)) result }
-    ensures script { request.action ≡ Action.Replay → ReadsScript request.ask (lent (F.seen folder.old) (I.seen script.old) (O.seen out.old)) (lent (F.seen folder.new) (I.seen script.new) (O.seen out.new)) result }
+    ensures owes { Owes (words_plan (Ok request)) (words_read (Ok request))
+        (lent (F.seen folder.old) (I.seen script.old) (O.seen out.old))
+        (lent (F.seen folder.new) (I.seen script.new) (O.seen out.new)) result }
+    ensures script { request.action ≡ Action.Replay → ReadsScript request.ask
+        (lent (F.seen folder.old) (I.seen script.old) (O.seen out.old))
+        (lent (F.seen folder.new) (I.seen script.new) (O.seen out.new)) result }
     ensures unasked { words_read (Ok request) ≡ false → script.new ≡ script.old }
     ensures word { IsBadWord result → ⊥ }
 {
@@ -50,7 +54,8 @@ fn run_words<F: Folder, I: Source, O: Sink>(
     script: &mut I,
     out: &mut O,
 ) -> Outcome
-    ensures comes { Comes (words_of words.now) (lent (F.seen folder.old) (I.seen script.old) (O.seen out.old)) (lent (F.seen folder.new) (I.seen script.new) (O.seen out.new)) result }
+    ensures comes { Comes (words_of words.now) (lent (F.seen folder.old) (I.seen script.old) (O.seen out.old))
+        (lent (F.seen folder.new) (I.seen script.new) (O.seen out.new)) result }
     ensures unread { IsErr (words_of words.now) → (folder.new ≡ folder.old) × (out.new ≡ out.old) }
     ensures unasked { words_read (words_of words.now) ≡ false → script.new ≡ script.old }
 {
@@ -105,11 +110,16 @@ pub fn metro_still<
     _gate: &G,
 ) -> u8
     // What is asked for is done, and each answer has its reason.
-    ensures run { Runs (words_of words.now) (lent (F.seen folder.old) (I.seen script.old) (O.seen out.old)) (lent (F.seen folder.new) (I.seen script.new) (O.seen out.new)) (E.seen log.old) (E.seen log.new) result }
+    ensures run { Runs (words_of words.now) (lent (F.seen folder.old) (I.seen script.old) (O.seen out.old))
+        (lent (F.seen folder.new) (I.seen script.new) (O.seen out.new)) (E.seen log.old) (E.seen log.new) result }
 
     // What the plans of the commands say.
-    ensures bundle { (ask : Ask) (tree : Files) (bytes : List ℕ) → words_of words.now ≡ Ok (record { action = Action.Bundle; ask = ask }) → Bundles ask tree (words_plan (words_of words.now) tree bytes) }
-    ensures replay { (ask : Ask) (tree : Files) (bytes : List ℕ) → words_of words.now ≡ Ok (record { action = Action.Replay; ask = ask }) → Replays ask tree (script_of bytes) (words_plan (words_of words.now) tree bytes) }
+    ensures bundle { (ask : Ask) (tree : Files) (bytes : List ℕ)
+        → words_of words.now ≡ Ok (record { action = Action.Bundle; ask = ask })
+        → Bundles ask tree (words_plan (words_of words.now) tree bytes) }
+    ensures replay { (ask : Ask) (tree : Files) (bytes : List ℕ)
+        → words_of words.now ≡ Ok (record { action = Action.Replay; ask = ask })
+        → Replays ask tree (script_of bytes) (words_plan (words_of words.now) tree bytes) }
 
     // Where the words ask for nothing, nothing is read and nothing is written to the output. A script that they don't ask
     // for isn't read.
