@@ -12,6 +12,8 @@ mod options;
 #[cfg(test)]
 mod outputs;
 #[cfg(test)]
+mod reports;
+#[cfg(test)]
 mod resolution;
 #[cfg(test)]
 mod revisions;

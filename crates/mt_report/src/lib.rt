@@ -4,8 +4,6 @@
 mod digest;
 mod outcome;
 mod report;
-#[cfg(test)]
-mod tests;
 
 pub use digest::DigestSink;
 pub use outcome::{Limit, Outcome};

@@ -1,10 +1,10 @@
 //! The lines of builds, the digest, and the status and line of each outcome.
-use crate::{DigestSink, Limit, Outcome, refused_line, revision_line, same_line};
 use mt_containers::{List, Shared};
 use mt_files::{BuildFault, CrawlFault, JournalFault};
 use mt_io::{Failed, Sink, Trouble};
 use mt_package::Options;
 use mt_path::{Path, PathFault};
+use mt_report::{DigestSink, Limit, Outcome, refused_line, revision_line, same_line};
 use mt_revision::{Module, ModuleMap, Revision};
 use mt_script::ScriptFault;
 use mt_tokens::{Bytes, PathKind, SourceFault, SyntaxFault, Text};
