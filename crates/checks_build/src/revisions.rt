@@ -209,32 +209,25 @@ fn a_revision_has_its_parts(rt: HostRuntime) -> Result<(), Fail> {
     Ok(())
 }
 
+/// The numbers that are touched where the modules of `two_modules(1, "a")` become those of this number and source.
+fn touched_by(alloc: Global, to: u32, source: &str) -> Result<List<u32>, Fail> {
+    let first = revision(alloc, None, true, two_modules(alloc, 1, "a")?)?;
+    if first.number() != 1 || !first.dev() {
+        return Ok(List::new(alloc));
+    }
+    let second = revision(alloc, Some(&first), true, two_modules(alloc, to, source)?)?;
+    Ok(List::from_slice(alloc, second.touched())?)
+}
+
 #[test]
 fn only_what_differs_is_touched(rt: HostRuntime) -> Result<(), Fail> {
-    let first = revision(rt.alloc(), None, true, two_modules(rt.alloc(), 1, "a")?)?;
-    assert!(rt; first.number() == 1 && first.dev());
-    let same = revision(
-        rt.alloc(),
-        Some(&first),
-        true,
-        two_modules(rt.alloc(), 1, "a")?,
-    )?;
-    assert_eq!(rt; same.number(), 2);
-    assert!(rt; same.touched().is_empty());
-    let other = revision(
-        rt.alloc(),
-        Some(&first),
-        true,
-        two_modules(rt.alloc(), 1, "b")?,
-    )?;
-    assert!(rt; other.touched() == [1].as_slice());
-    let led = revision(
-        rt.alloc(),
-        Some(&first),
-        true,
-        two_modules(rt.alloc(), 2, "a")?,
-    )?;
-    assert!(rt; led.touched() == [0].as_slice());
+    for (to, source, touched) in [
+        (1, "a", [].as_slice()),
+        (1, "b", [1].as_slice()),
+        (2, "a", [0].as_slice()),
+    ] {
+        assert!(rt; touched_by(rt.alloc(), to, source)?.as_slice() == touched);
+    }
     law_of_logs();
     Ok(())
 }
@@ -342,30 +335,62 @@ fn revision_of(
     Ok(Some(revision_of_graph(alloc, before, &options, changes, numbering, &entries, graph)?))
 }
 
+/// A module that requires two, one of them twice.
+const THREE: [(&str, &str); 3] = [
+    ("/a.js", ""),
+    ("/b.js", ""),
+    (
+        "/z.js",
+        "require('./b.js');require('./a.js');require('./b.js')",
+    ),
+];
+
+/// The numbering of `THREE`.
+fn numbering_of_three(alloc: Global) -> Result<Numbering, Fail> {
+    let files = snapshot(alloc, &THREE)?;
+    let graph = built(alloc, &files, "/z.js")?;
+    extended(alloc, &Numbering::new(alloc), &graph)
+}
+
+/// The first revision of `THREE`, after two changes.
+fn first_of_three(alloc: Global, numbering: &Numbering) -> Result<Option<Revision>, Fail> {
+    let files = snapshot(alloc, &THREE)?;
+    let graph = built(alloc, &files, "/z.js")?;
+    revision_of(alloc, None, 2, numbering, graph)
+}
+
+/// The revision after the one before, and three changes, in which one of two modules requires the other.
+fn second_of_two(
+    alloc: Global,
+    before: &Revision,
+    numbering: &Numbering,
+) -> Result<Option<Revision>, Fail> {
+    let files = snapshot(alloc, &[("/a.js", ""), ("/z.js", "require('./a.js')")])?;
+    let graph = built(alloc, &files, "/z.js")?;
+    if before.number() != 1 || !before.dev() {
+        return Ok(None);
+    }
+    revision_of(alloc, Some(before), 3, numbering, graph)
+}
+
 #[test]
 fn a_graph_becomes_a_revision(rt: HostRuntime) -> Result<(), Fail> {
-    let sources = [
-        ("/a.js", ""),
-        ("/b.js", ""),
-        (
-            "/z.js",
-            "require('./b.js');require('./a.js');require('./b.js')",
-        ),
-    ];
-    let mut files = snapshot(rt.alloc(), &sources)?;
-    let graph = built(rt.alloc(), &files, "/z.js")?;
-    let numbering = extended(rt.alloc(), &Numbering::new(rt.alloc()), &graph)?;
-    let first = revision_of(rt.alloc(), None, 2, &numbering, graph)?.ok_or("few paths")?;
+    let numbering = numbering_of_three(rt.alloc())?;
+    let first = first_of_three(rt.alloc(), &numbering)?.ok_or("few paths")?;
     assert!(rt; first.number() == 1 && first.changes() == 2 && first.dev() && first.len() == 3);
     assert!(rt; first.entries() == [0].as_slice());
+    let kept = first.module(0).ok_or("a module")?;
+    assert!(rt; kept.path.as_str() == "/z.js");
     let slots = [Slot::Module(2), Slot::Module(1)];
-    assert!(rt;
-        first.module(0).is_some_and(|kept| kept.path.as_str() == "/z.js"
-            && kept.slots.as_slice() == slots.as_slice())
-    );
-    put(rt.alloc(), &mut files, "/z.js", "require('./a.js')")?;
-    let graph = built(rt.alloc(), &files, "/z.js")?;
-    let second = revision_of(rt.alloc(), Some(&first), 3, &numbering, graph)?.ok_or("few paths")?;
+    assert!(rt; kept.slots.as_slice() == slots.as_slice());
+    Ok(())
+}
+
+#[test]
+fn a_later_graph_keeps_the_numbers(rt: HostRuntime) -> Result<(), Fail> {
+    let numbering = numbering_of_three(rt.alloc())?;
+    let first = first_of_three(rt.alloc(), &numbering)?.ok_or("few paths")?;
+    let second = second_of_two(rt.alloc(), &first, &numbering)?.ok_or("few paths")?;
     assert!(rt; second.number() == 2 && second.changes() == 3 && second.len() == 2);
     assert!(rt; second.touched() == [0, 2].as_slice());
     law_of_slots();
