@@ -1,12 +1,8 @@
-//! Tests of the crates that a build is made of.
+//! Tests of the crates that read sources, and of the lines that tell of builds.
 #![tactic(auto)]
 
 #[cfg(test)]
-mod common;
-#[cfg(test)]
 mod dependencies;
-#[cfg(test)]
-mod graphs;
 #[cfg(test)]
 mod options;
 #[cfg(test)]
@@ -15,7 +11,3 @@ mod outputs;
 mod reports;
 #[cfg(test)]
 mod resolution;
-#[cfg(test)]
-mod revisions;
-#[cfg(test)]
-mod writers;
