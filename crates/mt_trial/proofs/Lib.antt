@@ -1,7 +1,0 @@
-pub mod Ascents
-pub mod Lefts
-pub mod Keys
-pub mod Costs
-pub mod Walked
-pub mod Outers
-pub mod Deaths
