@@ -1,6 +1,6 @@
 #!/usr/bin/env bash
-# Refuses memory at the N-th allocation of a small bundle and of a small replay, for each N: the run ends with 5 and a front
-# part of its output, or as it does with ample memory, and a run after all of them is as with ample memory. By hand, after
+# Refuses memory at the N-th allocation of a small bundle and of a small replay, for each N: the run ends with 5 and a
+# prefix of its output, or as it does with ample memory, and a run after all of them is as with ample memory. By hand, after
 # `rt ci` has left the program: it wants a C compiler and glibc, since a small library stands before the program's malloc.
 #
 #   checks/refuse-memory.sh [FIRST [LAST [STEP]]]
