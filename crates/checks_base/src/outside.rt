@@ -151,18 +151,24 @@ fn a_folder_lists_a_child_once(rt: HostRuntime) -> Result<(), Fail> {
 #[test]
 fn a_folder_reads_what_was_written(rt: HostRuntime) -> Result<(), Fail> {
     let mut folder = SureFolder::new(files(&rt, &["/a.js"])?);
-    let old = path(&rt, "/a.js")?;
     let new = path(&rt, "/b.js")?;
     folder.write(rt.alloc(), &new, b"two".as_slice())?;
     assert!(rt; folder.files().contains(&new));
     let read = folder.read(rt.alloc(), &new)?;
     assert!(rt; read.as_slice() == b"two".as_slice());
+    assert!(rt; folder.faults() == 0);
+    Ok(())
+}
+
+#[test]
+fn a_write_leaves_the_other_files(rt: HostRuntime) -> Result<(), Fail> {
+    let mut folder = SureFolder::new(files(&rt, &["/a.js"])?);
+    folder.write(rt.alloc(), &path(&rt, "/b.js")?, b"two".as_slice())?;
+    let old = path(&rt, "/a.js")?;
     assert!(rt; folder.files().contains(&old));
     let read = folder.read(rt.alloc(), &old)?;
     assert!(rt; read.as_slice() == b"/a.js".as_slice());
-    assert!(rt; folder.faults() == 0);
-    let absent = path(&rt, "/c.js")?;
-    assert!(rt; !folder.files().contains(&absent));
+    assert!(rt; !folder.files().contains(&path(&rt, "/c.js")?));
     Ok(())
 }
 
@@ -187,16 +193,24 @@ fn finds(
 fn the_calls_named_fail(rt: HostRuntime) -> Result<(), Fail> {
     let failing = Vec::from_slice(rt.alloc(), &[2, 3])?;
     let mut folder = MapFolder::new(files(&rt, &["/a.js"])?, failing);
-    let there = path(&rt, "/a.js")?;
     let absent = path(&rt, "/b.js")?;
     assert!(rt; folder.list(rt.alloc(), &Path::root(rt.alloc())?).is_ok());
-    assert!(rt; finds(&rt, &mut folder, &there, None)?);
+    assert!(rt; finds(&rt, &mut folder, &path(&rt, "/a.js")?, None)?);
     assert!(rt; folder.write(rt.alloc(), &absent, b"x".as_slice()) == Err(Trouble::Failed));
     assert!(rt; folder.faults() == 2 && !folder.files().contains(&absent));
+    Ok(())
+}
+
+#[test]
+fn the_calls_after_one_that_fails_go_on(rt: HostRuntime) -> Result<(), Fail> {
+    let failing = Vec::from_slice(rt.alloc(), &[1])?;
+    let mut folder = MapFolder::new(files(&rt, &["/a.js"])?, failing);
+    let absent = path(&rt, "/b.js")?;
+    assert!(rt; folder.write(rt.alloc(), &absent, b"x".as_slice()).is_err());
     assert!(rt; folder.write(rt.alloc(), &absent, b"x".as_slice()).is_ok());
     assert!(rt; finds(&rt, &mut folder, &absent, Some(b"x"))?);
-    assert!(rt; finds(&rt, &mut folder, &there, Some(b"/a.js"))?);
-    assert!(rt; folder.faults() == 2);
+    assert!(rt; finds(&rt, &mut folder, &path(&rt, "/a.js")?, Some(b"/a.js"))?);
+    assert!(rt; folder.faults() == 1);
     Ok(())
 }
 

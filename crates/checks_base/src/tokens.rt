@@ -1,8 +1,6 @@
 //! The lexical grammar at its corners.
 use mt_tokens::TokenKind::{Comment, Ident, Number, Punct, Space, Str};
-use mt_tokens::{
-    MAX_TEXT_BYTES, TokenFault, TokenKind, byte_at, is_quote_byte, law_of_tokens, tokens,
-};
+use mt_tokens::{MAX_TEXT_BYTES, TokenFault, TokenKind, byte_at, is_quote_byte, tokens};
 use std::alloc::Global;
 use std::test::Fail;
 
@@ -152,7 +150,6 @@ fn a_token_list_is_read_by_numbers(rt: HostRuntime) -> Result<(), Fail> {
     assert!(rt; found.len() == 2 && !found.is_empty());
     let last = found.at(1);
     assert!(rt; last.kind == Punct && last.start == 2 && last.end == 3);
-    law_of_tokens();
     Ok(())
 }
 

@@ -1,5 +1,5 @@
 //! What is found in a text, and the first form that isn't read.
-use mt_deps::{DepFault, DepKind, deps, law_of_uses, part};
+use mt_deps::{DepFault, DepKind, deps, part};
 use mt_tokens::tokens;
 use std::test::Fail;
 
@@ -14,7 +14,6 @@ fn a_name_is_a_dependency_once_and_each_string_is_replaced(rt: HostRuntime) -> R
     let last = list.uses().get(1).ok_or("a use")?;
     assert!(rt; last.start == 21 && last.end == 24 && last.text.as_str() == "dependencyMap[0]");
     assert!(rt; list.marks().is_empty() && !list.exporting() && list.dynamic() == 0);
-    law_of_uses();
     Ok(())
 }
 

@@ -8,7 +8,7 @@ use mt_report::{DigestSink, Limit, Outcome, refused_line, revision_line, same_li
 use mt_revision::{Module, ModuleMap, Revision};
 use mt_script::ScriptFault;
 use mt_tokens::{Bytes, PathKind, SourceFault, SyntaxFault, Text};
-use mt_transform::transform;
+use mt_transform::{Output, transform};
 use mt_write::Slot;
 use std::alloc::{AllocError, AllocFailed, Global};
 use std::test::Fail;
@@ -188,66 +188,100 @@ fn a_digest_is_that_of_all_bytes(rt: HostRuntime) -> Result<(), Fail> {
     Ok(())
 }
 
-/// Puts the module of a short script under a number, with these slots.
+/// What a short script becomes, and what the empty script becomes for a longer one.
+fn output_of(alloc: Global, source: &str) -> Result<Shared<Output>, Fail> {
+    let options = Options::standard(alloc)?;
+    let text = if source.len() <= 100 { source } else { "" };
+    let source = Shared::new(alloc, Bytes::from_slice(alloc, text.as_bytes())?)?;
+    let output = transform(alloc, &options, PathKind::Script, source)?;
+    Ok(Shared::new(alloc, output)?)
+}
+
+/// Puts the module of a short script under a small number, with these slots.
 fn put(
     alloc: Global,
     modules: &mut ModuleMap,
     number: u32,
     (text, source, slots): (&str, &str, &[Slot]),
 ) -> Result<(), Fail> {
-    if number >= 100 || source.len() > 100 {
+    if number >= 100 {
         return Ok(());
     }
-    let options = Options::standard(alloc)?;
-    let source = Shared::new(alloc, Bytes::from_slice(alloc, source.as_bytes())?)?;
-    let output = transform(alloc, &options, PathKind::Script, source)?;
     let mut list = List::new(alloc);
     for slot in slots {
         list.push(*slot)?;
     }
     let module = Module {
         path: Path::parse(alloc, text)?,
-        output: Shared::new(alloc, output)?,
+        output: output_of(alloc, source)?,
         slots: list,
     };
     modules.insert(number, Shared::new(alloc, module)?)?;
     Ok(())
 }
 
-/// The lines of a first build and of one after it. The digests are those of `sha256sum` over the bundles, written out by
-/// hand: the prelude of `mt_write` for development, the modules by number, and the line that starts the module under 0.
+/// Three modules.
+fn first_modules(alloc: Global) -> Result<ModuleMap, Fail> {
+    let mut modules = ModuleMap::new(alloc);
+    put(alloc, &mut modules, 0, ("/z.js", "z", &[Slot::Module(1)]))?;
+    put(alloc, &mut modules, 1, ("/a.js", "a", &[]))?;
+    put(alloc, &mut modules, 2, ("/b.js", "b", &[Slot::Empty]))?;
+    Ok(modules)
+}
+
+/// The first revision, of these three modules.
+fn first_revision(alloc: Global) -> Result<Revision, Fail> {
+    let modules = first_modules(alloc)?;
+    let entries = List::from_slice(alloc, &[0])?;
+    Ok(Revision::make(alloc, None, true, 0, entries, modules)?)
+}
+
+/// The line of the first revision of these modules.
+fn first_line(alloc: Global, modules: ModuleMap) -> Result<Text, Fail> {
+    let entries = List::from_slice(alloc, &[0])?;
+    let first = Revision::make(alloc, None, true, 0, entries, modules)?;
+    Ok(revision_line(alloc, None, &first)?)
+}
+
+/// The modules of the revision after it.
+fn second_modules(alloc: Global) -> Result<ModuleMap, Fail> {
+    let mut modules = ModuleMap::new(alloc);
+    put(alloc, &mut modules, 0, ("/z.js", "y", &[Slot::Module(4)]))?;
+    put(alloc, &mut modules, 3, ("/c.js", "c", &[]))?;
+    put(alloc, &mut modules, 4, ("/d.js", "d", &[]))?;
+    put(alloc, &mut modules, 5, ("/e.js", "e", &[]))?;
+    Ok(modules)
+}
+
+/// The line of the revision of these modules after the first one, where that is the first and for development.
+fn second_line(alloc: Global, first: &Revision, modules: ModuleMap) -> Result<Text, Fail> {
+    if first.number() != 1 || !first.dev() {
+        return Ok(Text::new(alloc));
+    }
+    let entries = List::from_slice(alloc, &[0])?;
+    let second = Revision::make(alloc, Some(first), true, 7, entries, modules)?;
+    Ok(revision_line(alloc, Some(first), &second)?)
+}
+
+// The digests below are those of `sha256sum` over the bundles, written out by hand: the prelude of `mt_write` for
+// development, the modules by number, and the line that starts the module under 0.
+
 #[test]
-fn a_line_tells_of_a_revision(rt: HostRuntime) -> Result<(), Fail> {
-    let mut modules = ModuleMap::new(rt.alloc());
-    put(
-        rt.alloc(),
-        &mut modules,
-        0,
-        ("/z.js", "z", &[Slot::Module(1)]),
-    )?;
-    put(rt.alloc(), &mut modules, 1, ("/a.js", "a", &[]))?;
-    put(rt.alloc(), &mut modules, 2, ("/b.js", "b", &[Slot::Empty]))?;
-    let entries = List::from_slice(rt.alloc(), &[0])?;
-    let first = Revision::make(rt.alloc(), None, true, 0, entries, modules)?;
-    let line = revision_line(rt.alloc(), None, &first)?;
+fn a_line_tells_of_a_first_revision(rt: HostRuntime) -> Result<(), Fail> {
+    let modules = first_modules(rt.alloc())?;
+    let line = first_line(rt.alloc(), modules)?;
     assert!(rt;
         line.as_str()
             == "revision 1 changes 0 modules 3 added 3 modified 0 deleted 0 bytes 1082 digest dec8b8147448ed4bbe8487332024b96db3ec7caa18d016e80a60f80e0a391183\n"
     );
+    Ok(())
+}
 
-    let mut modules = ModuleMap::new(rt.alloc());
-    put(
-        rt.alloc(),
-        &mut modules,
-        0,
-        ("/z.js", "y", &[Slot::Module(4)]),
-    )?;
-    put(rt.alloc(), &mut modules, 3, ("/c.js", "c", &[]))?;
-    put(rt.alloc(), &mut modules, 4, ("/d.js", "d", &[]))?;
-    put(rt.alloc(), &mut modules, 5, ("/e.js", "e", &[]))?;
-    let entries = List::from_slice(rt.alloc(), &[0])?;
-    let second = Revision::make(rt.alloc(), Some(&first), true, 7, entries, modules)?;
-    let line = revision_line(rt.alloc(), Some(&first), &second)?;
+#[test]
+fn a_line_tells_of_a_later_revision(rt: HostRuntime) -> Result<(), Fail> {
+    let first = first_revision(rt.alloc())?;
+    let modules = second_modules(rt.alloc())?;
+    let line = second_line(rt.alloc(), &first, modules)?;
     assert!(rt;
         line.as_str()
             == "revision 2 changes 7 modules 4 added 3 modified 1 deleted 2 bytes 1187 digest 23a07fc1938a61af799ce8322e7851b221d502fe5af9cc5cb5ef4a160f8b4cd5\n"

@@ -1,7 +1,7 @@
 //! What a crawl meets, passes over and refuses.
 ghost use Rattle.std.specs.Prelude.{⊤, None};
 
-use mt_files::{CrawlFault, Entry, FileMap, crawl, law_of_crawls, law_of_limits, path_kind};
+use mt_files::{CrawlFault, Entry, FileMap, crawl, path_kind};
 use mt_io::{Folder, MapFolder, Named, NamedKind, NamedList, SureFolder, Trouble};
 use mt_path::{Path, PathMap};
 use mt_tokens::{Bytes, MAX_SOURCE_BYTES, PathKind, Shared, Text};
@@ -62,7 +62,6 @@ fn hidden_folders_are_passed_over(rt: HostRuntime) -> Result<(), Fail> {
     assert!(rt; matches!(other, Some(Entry::Other)));
     let hidden = found.get(&Path::parse(rt.alloc(), "/.git/x.js")?);
     assert!(rt; hidden.is_none());
-    law_of_crawls();
     Ok(())
 }
 
@@ -83,7 +82,6 @@ fn the_first_limit_is_answered(rt: HostRuntime) -> Result<(), Fail> {
             Err(_) => assert!(rt; false),
         }
     }
-    law_of_limits();
     Ok(())
 }
 

@@ -1,6 +1,6 @@
 //! What a rescan reports.
 use crate::files::{add, files, one};
-use mt_files::{Change, ChangeList, CrawlFault, Entry, FileMap, crawl, law_of_rescans, rescan};
+use mt_files::{Change, ChangeList, CrawlFault, Entry, FileMap, crawl, rescan};
 use mt_io::{Folder, MapFolder, SureFolder};
 use mt_path::Path;
 use mt_tokens::{Bytes, MAX_SOURCE_BYTES};
@@ -35,7 +35,7 @@ fn is_change(change: &Change, text: &str, kept: &str) -> bool {
     change.path().as_str() == text && found == kept.as_bytes()
 }
 
-/// Whether a source is too large: this one, of so many bytes.
+/// Whether a source is too large: this one, of this many bytes.
 fn is_too_large(fault: &CrawlFault, text: &str, bytes: usize) -> bool {
     match fault {
         CrawlFault::FileTooLarge { path, size } => path.as_str() == text && *size == bytes,
@@ -97,7 +97,6 @@ fn the_changes_lead_to_the_folder(rt: HostRuntime) -> Result<(), Fail> {
     assert!(rt; changes.len() == 4 && kept.len() == 3);
     let none = rescan(rt.alloc(), &mut folder, &kept)?;
     assert!(rt; none.is_empty());
-    law_of_rescans();
     Ok(())
 }
 

@@ -3,7 +3,7 @@ ghost use Rattle.mt_script.specs.Commands.{IsWritable};
 
 use mt_io::{ListSource, Source};
 use mt_path::Path;
-use mt_script::{Command, ScriptFault, ScriptReader, law_of_scripts, write_command};
+use mt_script::{Command, ScriptFault, ScriptReader, write_command};
 use mt_tokens::Bytes;
 use std::alloc::{AllocError, Global};
 use std::test::Fail;
@@ -95,7 +95,7 @@ fn reads(alloc: Global, script: &[u8], wants: &[Want]) -> Result<bool, AllocErro
     Ok(answers_all(alloc, &mut whole, wants)? && answers_all(alloc, &mut bytewise, wants)?)
 }
 
-/// A line of so many bytes, without a line feed.
+/// A line of this many bytes, without a line feed.
 fn line(alloc: Global, start: &[u8], len: usize) -> Result<Bytes, AllocError> {
     let mut line = Bytes::from_slice(alloc, start)?;
     for _ in start.len()..len {
@@ -104,28 +104,40 @@ fn line(alloc: Global, start: &[u8], len: usize) -> Result<Bytes, AllocError> {
     Ok(line)
 }
 
+/// What a command says: its word, its path and its bytes.
+fn parts(command: &Command) -> (&str, &str, &[u8]) {
+    match command {
+        Command::Put(path, bytes) => ("put", path.as_str(), bytes.as_slice()),
+        Command::Del(path) => ("del", path.as_str(), b""),
+        Command::Rescan => ("rescan", "", b""),
+        Command::Build => ("build", "", b""),
+        Command::End => ("end", "", b""),
+    }
+}
+
+/// Whether the reader's next answer is a command that says this.
+fn says(reader: &mut ScriptReader, source: &mut ListSource, want: (&str, &str, &[u8])) -> bool {
+    match reader.next(source) {
+        Ok(command) => parts(&command) == want,
+        Err(_) => false,
+    }
+}
+
 #[test]
 fn each_command_is_read(rt: HostRuntime) -> Result<(), Fail> {
-    law_of_scripts();
     let script = b"put /a.js 3\n\n\xff\n\ndel /b c.js\nput /a.js  0\n\nrescan\nbuild\nend\nbuild\n";
     let mut source = bytes_of(rt.alloc(), script)?;
     let mut reader = ScriptReader::new(rt.alloc())?;
-    let put = reader.next(&mut source);
-    assert!(rt;
-        matches!(&put, Ok(Command::Put(path, bytes)) if path.as_str() == "/a.js" && bytes.as_slice() == b"\n\xff\n".as_slice())
-    );
-    let del = reader.next(&mut source);
-    assert!(rt; matches!(&del, Ok(Command::Del(path)) if path.as_str() == "/b c.js"));
-    let blank = reader.next(&mut source);
-    assert!(rt;
-        matches!(&blank, Ok(Command::Put(path, bytes)) if path.as_str() == "/a.js " && bytes.is_empty())
-    );
-    let rescan = reader.next(&mut source);
-    assert!(rt; matches!(rescan, Ok(Command::Rescan)));
-    let build = reader.next(&mut source);
-    assert!(rt; matches!(build, Ok(Command::Build)));
-    let end = reader.next(&mut source);
-    assert!(rt; matches!(end, Ok(Command::End)));
+    for want in [
+        ("put", "/a.js", b"\n\xff\n".as_slice()),
+        ("del", "/b c.js", b""),
+        ("put", "/a.js ", b""),
+        ("rescan", "", b""),
+        ("build", "", b""),
+        ("end", "", b""),
+    ] {
+        assert!(rt; says(&mut reader, &mut source, want));
+    }
     Ok(())
 }
 
@@ -225,30 +237,51 @@ fn a_line_that_is_no_command_is_bad(rt: HostRuntime) -> Result<(), Fail> {
     Ok(())
 }
 
+/// A command that deletes a path of this many bytes.
+fn del(alloc: Global, size: usize) -> Result<Bytes, AllocError> {
+    let mut script = line(alloc, b"del /", size.saturating_add(4))?;
+    script.push(b'\n')?;
+    Ok(script)
+}
+
 #[test]
 fn a_path_has_at_most_1024_bytes(rt: HostRuntime) -> Result<(), Fail> {
-    let mut script = line(rt.alloc(), b"del /", 1028)?;
-    script.push(b'\n')?;
-    let mut source = list(rt.alloc(), &[script.as_slice()], &[])?;
+    let longest = del(rt.alloc(), 1024)?;
+    let mut source = list(rt.alloc(), &[longest.as_slice()], &[])?;
     let mut reader = ScriptReader::new(rt.alloc())?;
     let del = reader.next(&mut source);
     assert!(rt; matches!(&del, Ok(Command::Del(path)) if path.as_str().len() == 1024));
-    let mut script = line(rt.alloc(), b"del /", 1029)?;
-    script.push(b'\n')?;
-    assert!(rt; reads(rt.alloc(), script.as_slice(), &[Want::Bad(1)])?);
+    Ok(())
+}
+
+#[test]
+fn a_path_of_1025_bytes_is_bad(rt: HostRuntime) -> Result<(), Fail> {
+    let longer = del(rt.alloc(), 1025)?;
+    assert!(rt; reads(rt.alloc(), longer.as_slice(), &[Want::Bad(1)])?);
     Ok(())
 }
 
 #[test]
 fn a_line_has_at_most_1100_bytes(rt: HostRuntime) -> Result<(), Fail> {
-    let longest = line(rt.alloc(), b"", 1100)?;
-    assert!(rt; reads(rt.alloc(), longest.as_slice(), &[Want::Cut(1)])?);
+    for (size, want) in [(1100, Want::Cut(1)), (1101, Want::Bad(1))] {
+        let line = line(rt.alloc(), b"", size)?;
+        assert!(rt; reads(rt.alloc(), line.as_slice(), &[want])?);
+    }
+    Ok(())
+}
+
+/// Whether a script is answered so, and what follows its first piece is not read.
+fn reads_no_more(alloc: Global, first: &[u8], want: Want) -> Result<bool, AllocError> {
+    let mut source = list(alloc, &[first, b"end\n"], &[2])?;
+    Ok(answers_all(alloc, &mut source, &[want])? && source.faults() == 0)
+}
+
+#[test]
+fn what_follows_a_refusal_is_not_read(rt: HostRuntime) -> Result<(), Fail> {
     let longer = line(rt.alloc(), b"", 1101)?;
-    assert!(rt; reads(rt.alloc(), longer.as_slice(), &[Want::Bad(1)])?);
-    let mut source = list(rt.alloc(), &[longer.as_slice(), b"end\n"], &[2])?;
-    let mut reader = ScriptReader::new(rt.alloc())?;
-    assert!(rt; answers(rt.alloc(), &mut reader, &mut source, Want::Bad(1))?);
-    assert!(rt; source.faults() == 0);
+    assert!(rt; reads_no_more(rt.alloc(), longer.as_slice(), Want::Bad(1))?);
+    let put = b"put /a.js 16777217\n";
+    assert!(rt; reads_no_more(rt.alloc(), put, Want::TooLarge(16_777_217))?);
     Ok(())
 }
 
@@ -267,11 +300,13 @@ fn a_put_has_at_most_16777216_bytes(rt: HostRuntime) -> Result<(), Fail> {
         matches!(&put, Ok(Command::Put(path, found)) if path.as_str() == "/a.js" && found.as_slice() == bytes.as_slice())
     );
     assert!(rt; answers(rt.alloc(), &mut reader, &mut source, Want::Text("end\n"))?);
+    Ok(())
+}
+
+#[test]
+fn a_put_of_16777217_bytes_is_too_large(rt: HostRuntime) -> Result<(), Fail> {
     let wants = [Want::TooLarge(16_777_217)];
     assert!(rt; reads(rt.alloc(), b"put /a.js 16777217\nx", &wants)?);
-    let mut source = list(rt.alloc(), &[b"put /a.js 16777217\n", b"x"], &[2])?;
-    assert!(rt; answers_all(rt.alloc(), &mut source, &wants)?);
-    assert!(rt; source.faults() == 0);
     Ok(())
 }
 

@@ -1,6 +1,6 @@
 -- Where files have no fault, the entries and the modules are files.
-use Rattle.std.proofs.Common.{inl, inr, ◌⊎◌, ◌≡◌, ◌∙◌, ℕ, Bool, true, false, cond, not, List, [], ◌∷◌, ◌++◌, filter, length, nat_lt, Option, Some, None, refl, ap, sym}
-use Rattle.std.specs.List.{flat_map, list_any}
+use Rattle.std.proofs.Common.{inl, inr, ◌⊎◌, ◌≡◌, ◌∙◌, ℕ, Bool, true, false, not, List, [], ◌∷◌, ◌++◌, filter, Option, Some, None, refl, ap, sym}
+use Rattle.std.specs.List.{list_any}
 use Rattle.std.specs.Option.{is_some, option_map, option_map_or}
 use Rattle.std.specs.Str.{bytes_eq}
 use Rattle.std.specs.FinMap.{contains_key, get}
@@ -9,36 +9,17 @@ use Rattle.std.proofs.lemmas.List.Folds.{list_any-append}
 use Rattle.mt_tokens.specs.Transform.{transformed}
 use Rattle.mt_package.specs.declared.options.Options.{Options}
 use Rattle.mt_files.specs.Asks.{Ask}
-use Rattle.mt_files.specs.Edges.{faults_at, kind_of, made_faults}
-use Rattle.mt_files.specs.Fresh.{all_faults, max_modules, members}
+use Rattle.mt_files.specs.Edges.{kind_of, made_faults}
+use Rattle.mt_files.specs.Fresh.{all_faults, members}
 use Rattle.mt_files.specs.Reach.{reach}
 use Rattle.mt_files.specs.Snapshots.{Snapshot, source_at, source_of}
-use Rattle.mt_files.specs.declared.build_fault.BuildFault.{BuildFault}
-use Rattle.mt_files.specs.declared.build_fault.BuildFault.TheVariants.{EntryMissing, TooManyModules}
+use Rattle.mt_files.specs.declared.build_fault.BuildFault.TheVariants.{EntryMissing}
 use Rattle.mt_files.specs.declared.file_map.Entry.{Entry}
 use Rattle.mt_files.proofs.Ascending.{has_ascending}
-use Rattle.mt_files.proofs.PathLists.{Has, append_left, has_contains, has_filter, same_path}
+use Rattle.mt_files.proofs.PathLists.{Has, append_left, has_contains, has_filter}
 use Rattle.mt_files.proofs.Reach.{reach_alone, reached_is_source}
 use Rattle.mt_revision.specs.Numberings.{extended, has_path, with_new}
-
--- ---- no faults
-
-none_both : {A : Type 0} (xs ys : List A) → xs ++ ys ≡ [] → (xs ≡ []) × (ys ≡ [])
-none_both [] ys h = (refl, h)
-none_both (x ∷ xs) ys h = absurd (cc)
-
-none_at : (f : List ℕ → List BuildFault) (ps : List (List ℕ)) (q : List ℕ) → flat_map f ps ≡ [] → Has ps q → f q ≡ []
-none_at f [] q h k = absurd (cc)
-none_at f (p ∷ ps) q h k =
-    let both = none_both (f p) (flat_map f ps) h in
-    elim (or_cases (bytes_eq q p) (list_any (bytes_eq q) ps) k) [
-      | inl e ↦ ap f (same_path q p e) ∙ both.0
-      | inr t ↦ none_at f ps q both.1 t
-    ]
-
-not_many : (b : Bool) (faults : List BuildFault) → cond b (TooManyModules ∷ []) faults ≡ [] → faults ≡ []
-not_many true faults h = absurd (cc)
-not_many false faults h = h
+use Rattle.mt_revision.proofs.Faultless.{no_fault_among}
 
 -- ---- files
 
@@ -54,7 +35,7 @@ source_there options files p (Some source) h = refl
 pub entry_file : (ask : Ask) (files : Snapshot) (path : List ℕ) → all_faults ask files ≡ [] → Has ask.entries path → contains_key files path ≡ true
 entry_file ask files path h has =
     let member : Has (members ask files) path = has_ascending (ask.entries ++ reach ask files) path ∙ append_left ask.entries (reach ask files) path has in
-    let clean = none_at (faults_at ask.options files) (members ask files) path (not_many (nat_lt max_modules (length (reach ask files))) _ h) member in
+    let clean = no_fault_among ask files path h member in
     file_of (get files path) (source_there ask.options files path (source_at files path) clean)
 
 -- what is reached is a file

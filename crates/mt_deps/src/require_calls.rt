@@ -50,7 +50,9 @@ pub(crate) fn read_site(
     here: Token,
     after: &[Token],
 ) -> Result<Option<Token>, DepFault>
-    ensures exact { result ≡ (if is_unread bytes.now (record { before = before; here = here; after = after.now }) then Err (DepFault.NotYet here.start) else Ok (required bytes.now (record { before = before; here = here; after = after.now }))) }
+    ensures exact { result ≡ (if is_unread bytes.now (record { before = before; here = here; after = after.now })
+        then Err (DepFault.NotYet here.start)
+        else Ok (required bytes.now (record { before = before; here = here; after = after.now }))) }
     ensures simple { IfOk result (λ string. IfSome string (λ t. is_simple_string bytes.now t ≡ true)) }
 {
     let place = here.start;

@@ -12,5 +12,3 @@ pub mod Limits
 pub mod Reach
 pub mod Rescans
 pub mod Quoting
-pub mod Reaches
-pub mod Unions

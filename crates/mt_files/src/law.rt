@@ -32,7 +32,9 @@ pub fn law_of_rescans()
     ensures none { (files : Snapshot) → changes_between files files ≡ [] }
     ensures each { (old new : Snapshot) → IsStrictlySortedBy (slice_cmp nat_cmp) (map path_of (changes_between old new)) }
     ensures effect { (old new : Snapshot) → All (HasEffect old) (changes_between old new) }
-    ensures only { (old new : Snapshot) (changes : List Change) → stepped_by old changes ≡ new → IsStrictlySortedBy (slice_cmp nat_cmp) (map path_of changes) → All (HasEffect old) changes → changes ≡ changes_between old new }
+    ensures only { (old new : Snapshot) (changes : List Change) → stepped_by old changes ≡ new
+        → IsStrictlySortedBy (slice_cmp nat_cmp) (map path_of changes) → All (HasEffect old) changes
+        → changes ≡ changes_between old new }
 {}
 
 /// Does nothing, and carries a law: the snapshot that a crawl makes of a tree has the entry of each file that it meets,

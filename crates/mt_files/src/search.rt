@@ -96,7 +96,8 @@ fn search_folder<F: Folder>(
 ) -> Result<(), CrawlFault>
     requires there { (tree : Files) → Tells (F.seen folder.old) tree → is_folder_in tree place.now ≡ true }
     ensures shown { OnOk result (IsShown met.old (places.old ++ place.now ∷ []) → IsShown met.new places.new) }
-    ensures searched { OnOk result ((tree : Files) → Tells (F.seen folder.old) tree → IsShown met.old (places.old ++ place.now ∷ []) → IsSearched tree met.old (places.old ++ place.now ∷ []) → IsSearched tree met.new places.new) }
+    ensures searched { OnOk result ((tree : Files) → Tells (F.seen folder.old) tree → IsShown met.old (places.old ++ place.now ∷ [])
+        → IsSearched tree met.old (places.old ++ place.now ∷ []) → IsSearched tree met.new places.new) }
     ensures listed { OnOk result (IsListed F.lists (map.contains_key met.old) (places.old ++ place.now ∷ []) → IsListed F.lists (map.contains_key met.new) places.new) }
     ensures looks { Looks (F.seen folder.old) (F.seen folder.new) (IsErrOf result CrawlFault.Failed) }
     ensures error { OnErr result ((result ≡ Err CrawlFault.NoMemory) ⊎ (result ≡ Err CrawlFault.Failed)) }

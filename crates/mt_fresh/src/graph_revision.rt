@@ -136,8 +136,12 @@ pub fn revision_of_graph(
     requires few { length numbering.now ≤ 327680 }
     ensures exact { IfOk result (λ r. r ≡ made_after (option_copied before.entry) options.now.dev changes (numbers_of numbering.now entries.now) (modules_of_graph numbering.now graph)) }
     ensures made { IfOk result (λ r. WasMadeAfter (option_copied before.entry) r) }
-    ensures fresh { (ask : Ask) (files : Snapshot) → ask ≡ record { options = options.now; entries = entries.now } → fresh_graph ask files ≡ Ok graph → list_all (has_path numbering.now) (reach ask files) ≡ true → IfOk result (λ r. r ≡ revision_after ask (option_copied before.entry) changes numbering.now files) }
-    ensures content { (ask : Ask) (files : Snapshot) → ask ≡ record { options = options.now; entries = entries.now } → fresh_graph ask files ≡ Ok graph → list_all (has_path numbering.now) (reach ask files) ≡ true → IfOk result (λ r. HasContent ask r numbering.now files) }
+    ensures fresh { (ask : Ask) (files : Snapshot) → ask ≡ record { options = options.now; entries = entries.now }
+        → fresh_graph ask files ≡ Ok graph → list_all (has_path numbering.now) (reach ask files) ≡ true
+        → IfOk result (λ r. r ≡ revision_after ask (option_copied before.entry) changes numbering.now files) }
+    ensures content { (ask : Ask) (files : Snapshot) → ask ≡ record { options = options.now; entries = entries.now }
+        → fresh_graph ask files ≡ Ok graph → list_all (has_path numbering.now) (reach ask files) ≡ true
+        → IfOk result (λ r. HasContent ask r numbering.now files) }
 {
     let numbers = numbers_of(alloc, numbering, entries)?;
     let modules = modules_of_graph(alloc, numbering, graph)?;

@@ -14,7 +14,9 @@ ghost use Rattle.mt_graph.specs.Judged.{judged, judged_faults};
 /// Does nothing, and carries laws: what is explored from seeds that are sources is a whole exploration, and from the
 /// entries that are sources, where nothing is known, it comes to the fresh graph, or to all faults.
 pub fn law_of_explorations()
-    ensures whole { (options : Options) (files : Snapshot) (seeds : List (List ℕ)) (known : Known) → All (λ seed. has_source files seed ≡ true) seeds → IsExploration options files seeds known (explored options files seeds known) }
+    ensures whole { (options : Options) (files : Snapshot) (seeds : List (List ℕ)) (known : Known)
+        → All (λ seed. has_source files seed ≡ true) seeds
+        → IsExploration options files seeds known (explored options files seeds known) }
     ensures graph { (ask : Ask) (files : Snapshot) → judged ask.entries (explored ask.options files (source_entries ask files) empty) ≡ fresh_graph ask files }
     ensures faults { (ask : Ask) (files : Snapshot) → judged_faults ask.entries (explored ask.options files (source_entries ask files) empty) ≡ all_faults ask files }
 {}

@@ -4,5 +4,4 @@ pub mod Readings
 pub mod Children
 pub mod RestOf
 pub mod Rests
-pub mod Tables
 pub mod KeepsOthers

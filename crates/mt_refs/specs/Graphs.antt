@@ -18,7 +18,11 @@ pub record Graph : Type 0 where
   pub spare : ℕ
 
 abbrev pub coded_graph : Coded Graph
-coded_graph = code_by (Edges × (List ℕ × ℕ)) (coded× (map.code coded_ℕ (coded_list coded_ℕ)) (coded× (coded_list coded_ℕ) coded_ℕ)) (λ g. (g.edges, (g.pins, g.spare))) (λ p. record { edges = p.0; pins = p.1.0; spare = p.1.1 }) (λ _. refl)
+coded_graph = code_by (Edges × (List ℕ × ℕ))
+    (coded× (map.code coded_ℕ (coded_list coded_ℕ)) (coded× (coded_list coded_ℕ) coded_ℕ))
+    (λ g. (g.edges, (g.pins, g.spare)))
+    (λ p. record { edges = p.0; pins = p.1.0; spare = p.1.1 })
+    (λ _. refl)
 
 abbrev pub IsLive : Graph → ℕ → Type 0
 IsLive g n = IsTrue (map.contains_key g.edges n)

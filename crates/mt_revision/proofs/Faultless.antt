@@ -64,8 +64,12 @@ not_many : (b : Bool) (faults : List BuildFault) → cond b (TooManyModules ∷ 
 not_many true faults h = cc
 not_many false faults h = h
 
+-- where there is no fault, no member has one
+pub no_fault_among : (ask : Ask) (files : Snapshot) (path : List ℕ) → all_faults ask files ≡ [] → Has (members ask files) path → faults_at ask.options files path ≡ []
+no_fault_among ask files path h k = none_of (faults_at ask.options files) (members ask files) path (not_many (nat_lt max_modules (length (reach ask files))) _ h) k
+
 pub no_fault_at : (ask : Ask) (files : Snapshot) (path : List ℕ) → all_faults ask files ≡ [] → Has (reach ask files) path → faults_at ask.options files path ≡ []
-no_fault_at ask files path h k = none_of (faults_at ask.options files) (members ask files) path (not_many (nat_lt max_modules (length (reach ask files))) _ h) (reached_member ask files path k)
+no_fault_at ask files path h k = no_fault_among ask files path h (reached_member ask files path k)
 
 -- ---- modules
 

@@ -47,7 +47,8 @@ impl Revision {
 
     /// How many modules were added, changed and left out since the revision before, which this one was made after.
     pub fn delta_lengths(&self, before: Option<&Revision>) -> DeltaLengths
-        ensures exact { self.now.touched ≡ touched_between (held_before (option_copied before.entry)) (held_of self.now) → result ≡ lengths_of (delta (held_before (option_copied before.entry)) (held_of self.now)) }
+        ensures exact { self.now.touched ≡ touched_between (held_before (option_copied before.entry)) (held_of self.now)
+            → result ≡ lengths_of (delta (held_before (option_copied before.entry)) (held_of self.now)) }
     {
         DeltaLengths {
             added: count_added(before, self),

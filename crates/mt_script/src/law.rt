@@ -14,5 +14,7 @@ pub fn law_of_scripts()
     ensures text { (n : ℕ) (bytes : List ℕ) (command : Command) (rest : List ℕ) → next_of n bytes ≡ Found command rest → bytes ≡ command_text command ++ rest }
     ensures command { (n : ℕ) (bytes : List ℕ) (command : Command) (rest : List ℕ) → next_of n bytes ≡ Found command rest → IsCommand command }
     ensures count { (n : ℕ) (bytes : List ℕ) (command : Command) (rest : List ℕ) → next_of n bytes ≡ Found command rest → n < max_commands }
-    ensures script { (commands : List Command) (more : List ℕ) → All IsCommand commands → All GoesOn commands → length commands < max_commands → script_of (script_text commands ++ command_text End ++ more) ≡ record { commands = commands; ending = None } }
+    ensures script { (commands : List Command) (more : List ℕ) → All IsCommand commands → All GoesOn commands
+        → length commands < max_commands
+        → script_of (script_text commands ++ command_text End ++ more) ≡ record { commands = commands; ending = None } }
 {}

@@ -189,7 +189,9 @@ impl ScriptReader {
         // Where the source tells its reading.
         ensures found { (r : Reading) → Tells (S.seen source.old) r → IfOk result (Finds (next_of self.old.count) r (S.seen source.new).told self.old.held self.new.held) }
         ensures refused { (r : Reading) → Tells (S.seen source.old) r → self.old.fault ≡ None → IfErr result (λ fault. IsOf fault (next_of self.old.count (self.old.held ++ r.left))) }
-        ensures interrupted { (r : Reading) → Tells (S.seen source.old) r → self.old.fault ≡ None → IsErrOf result ScriptFault.Failed → Interrupted (next_of self.old.count) (self.old.count + 1) r (S.seen source.new).told self.old.held }
+        ensures interrupted { (r : Reading) → Tells (S.seen source.old) r → self.old.fault ≡ None
+            → IsErrOf result ScriptFault.Failed
+            → Interrupted (next_of self.old.count) (self.old.count + 1) r (S.seen source.new).told self.old.held }
 
         // The fault that a call answers stays.
         ensures kept { self.new.fault ≡ result_err result }
