@@ -139,6 +139,8 @@ fn each_refusal_has_its_place(rt: HostRuntime) {
     for (script, place, why) in [
         (b"x = 'a".as_slice(), 4, SyntaxFault::UnclosedString),
         (b"/* x".as_slice(), 0, SyntaxFault::UnclosedComment),
+        (b"x = `a".as_slice(), 4, SyntaxFault::UnclosedTemplate),
+        (b"x = /a".as_slice(), 4, SyntaxFault::UnclosedRegex),
         (b"a\x7F".as_slice(), 1, SyntaxFault::BadCharacter),
         (b"(]".as_slice(), 1, SyntaxFault::UnbalancedBracket),
     ] {

@@ -1,10 +1,9 @@
 -- The ranges of a text that are replaced come one after another.
-use Rattle.std.proofs.Common.{◌≡◌, ◌≤◌, ◌-◌, ℕ, Bool, true, false, codes, cond, List, [], ◌∷◌, drop, map, Option, Some, None, Ok, refl, subst, arith}
+use Rattle.std.proofs.Common.{◌≡◌, ◌≤◌, ◌-◌, ℕ, Bool, true, false, codes, cond, List, [], ◌∷◌, length, map, Option, Some, None, Ok, refl, subst, arith}
 use Rattle.std.specs.List.{cons_option}
 use Rattle.mt_tokens.specs.declared.token.Token.{Token}
 use Rattle.mt_tokens.specs.Deps.{Dependency, Deps, argument, dependencies, deps_of, is_plain, is_seen, replaced, required, seen}
 use Rattle.mt_tokens.specs.Tokens.{Covers}
-use Rattle.mt_tokens.proofs.Covers.{front_fits}
 use Rattle.mt_deps.specs.Uses.{AreInOrder}
 use Rattle.mt_deps.proofs.Strings.{deps_found, left, passed_on, second_is, site}
 
@@ -17,12 +16,12 @@ later : (at from : ℕ) (ts : List Token) → at ≤ from → InOrder from ts �
 later at from [] l h = tt
 later at from (t ∷ ts) l h = let s = h.0 in (omega (arith, s, l), h.1, h.2)
 
-covers_in_order : (place : ℕ) (rest : List ℕ) (ts : List Token) → Covers place rest ts → InOrder place ts
-covers_in_order place rest [] c = tt
-covers_in_order place rest (t ∷ ts) c =
-    let f = front_fits place rest t.kind (t.end - t.start) c.1 in
-    let s : t.start ≡ place = c.0 in
-    (omega arith, omega arith, covers_in_order t.end (drop (t.end - t.start) rest) ts c.2)
+covers_in_order : (from to : ℕ) (ts : List Token) → Covers from to ts → InOrder from ts
+covers_in_order from to [] c = tt
+covers_in_order from to (t ∷ ts) c =
+    let s : t.start ≡ from = c.0 in
+    let l = c.1 in
+    (omega arith, omega (arith, l), covers_in_order t.end to ts c.2)
 
 seen_by : (at : ℕ) (t : Token) (ts : List Token) (test : Bool) → InOrder at (t ∷ ts) → InOrder t.end (seen ts) → InOrder at (cond test (t ∷ seen ts) (seen ts))
 seen_by at t ts true h i = (h.0, h.1, i)
@@ -64,8 +63,8 @@ uses_in_order : (text : List ℕ) (ds : List Dependency) (at : ℕ) (ts : List T
 uses_in_order text ds at [] h = tt
 uses_in_order text ds at (t ∷ ts) h = (h.0, h.1, uses_in_order text ds t.end ts h.2)
 
-pub found_in_order : (text : List ℕ) (ts : List Token) (found : Deps) → Covers 0 text ts → deps_of text ts ≡ Ok found → AreInOrder 0 found.uses
+pub found_in_order : (text : List ℕ) (ts : List Token) (found : Deps) → Covers 0 (length text) ts → deps_of text ts ≡ Ok found → AreInOrder 0 found.uses
 found_in_order text ts found c d =
-    let tokens = seen_in_order 0 ts (covers_in_order 0 text ts c) in
+    let tokens = seen_in_order 0 ts (covers_in_order 0 (length text) ts c) in
     let strings = strings_in_order text None (seen ts) 0 (tail_in_order 0 (tail (seen ts)) (tail_in_order 0 (seen ts) tokens)) in
     rw (deps_found text ts found d) (uses_in_order text (dependencies text ts) 0 (left text None (seen ts)) strings)

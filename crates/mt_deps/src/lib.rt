@@ -9,6 +9,5 @@ mod words;
 
 pub use dep_list::DepList;
 pub use law::law_of_uses;
-pub use mt_tokens::{Dep, DepFault, DepKind, Mark, Use};
+pub use mt_tokens::{Dep, DepFault, DepKind, Mark, Use, part};
 pub use reading::deps;
-pub use words::part;

@@ -8,7 +8,7 @@ ghost use Rattle.mt_deps.specs.Numbers.{Numbers};
 use crate::DepList;
 use crate::require_calls::read_site;
 use mt_containers::List;
-use mt_tokens::{Dep, DepFault, DepKind, Text, TextMap, Token, TokenKind, TokenList, Use};
+use mt_tokens::{Dep, DepFault, DepKind, Text, TextMap, Token, TokenList, Use, is_seen_kind};
 use std::alloc::{AllocError, Global};
 
 /// What is between the quotes.
@@ -84,7 +84,7 @@ fn seen_tokens(alloc: Global, tokens: &[Token]) -> Result<Vec<Token>, AllocError
     tokens
         .iter()
         .copied()
-        .filter(|t| !matches!(t.kind, TokenKind::Space | TokenKind::Comment))
+        .filter(|t| is_seen_kind(t.kind))
         .collect(alloc)
 }
 

@@ -2,8 +2,8 @@
 ghost use Rattle.std.specs.Prelude.{◌≡◌, if◌then◌else◌, true, Ok, Err, IfOk, IfSome, codes};
 ghost use Rattle.mt_tokens.specs.Deps.{begins, is_simple_string, closes, argument, required, is_unread};
 
-use crate::words::{is_mark_token, is_plain_word, is_simple};
-use mt_tokens::{DepFault, Token};
+use crate::words::is_simple;
+use mt_tokens::{DepFault, Token, is_mark_token, is_plain_word};
 
 /// Whether the first of the tokens is this punctuator.
 fn begins_with(bytes: &[u8], mark: &[u8], tokens: &[Token]) -> bool

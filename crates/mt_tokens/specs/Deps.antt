@@ -1,10 +1,11 @@
 -- The dependencies of a text: the strings that it requires, and what takes their place.
-use Rattle.std.specs.Prelude.{ℕ, ◌+◌, ◌-◌, Bool, true, false, not, ◌&&◌, ◌||◌, List, [], ◌∷◌, ◌++◌, take, drop, map, filter, if◌then◌else◌, Option, Some, None, is_none, nat_eq, nat_lt, slice_index, Result, Ok, Err, codes}
+use Rattle.std.specs.Prelude.{ℕ, ◌+◌, ◌-◌, Bool, true, false, not, ◌&&◌, ◌||◌, List, [], ◌∷◌, ◌++◌, take, drop, map, if◌then◌else◌, Option, Some, None, is_none, nat_eq, nat_lt, slice_index, Result, Ok, Err, codes}
 use Rattle.std.specs.List.{list_any, filter_map, fold, find, position_or_len}
 use Rattle.std.specs.Str.{bytes_eq}
 use Rattle.std.specs.Option.{option_map, option_map_or}
 use Rattle.std.specs.Fmt.{decimal}
 use Rattle.mt_tokens.specs.Classes.{is_quote}
+pub use Rattle.mt_tokens.specs.Words.{bytes_of, is_access, is_ident, is_mark, is_plain, is_punct_kind, is_seen, is_str, is_word, seen}
 use Rattle.mt_tokens.specs.declared.dep.Dep.{Dep}
 use Rattle.mt_tokens.specs.declared.dep.DepFault.{DepFault}
 use Rattle.mt_tokens.specs.declared.dep.DepFault.TheVariants.{NotYet}
@@ -13,57 +14,6 @@ use Rattle.mt_tokens.specs.declared.dep.Use.{Use}
 use Rattle.mt_tokens.specs.declared.source.DepKind.{DepKind}
 use Rattle.mt_tokens.specs.declared.source.DepKind.TheVariants.{Require, Import, ImportCall}
 use Rattle.mt_tokens.specs.declared.token.Token.{Token}
-use Rattle.mt_tokens.specs.declared.token.TokenKind.{TokenKind}
-use Rattle.mt_tokens.specs.declared.token.TokenKind.TheVariants.{Space, Comment, Ident, Number, Str, Punct}
-
--- the bytes of a token
-abbrev pub bytes_of : List ℕ → Token → List ℕ
-bytes_of text t = take (t.end - t.start) (drop t.start text)
-
--- neither blank nor comment
-abbrev pub is_seen : TokenKind → Bool
-is_seen Space = false
-is_seen Comment = false
-is_seen Ident = true
-is_seen Number = true
-is_seen Str = true
-is_seen Punct = true
-
-abbrev pub is_ident : TokenKind → Bool
-is_ident Space = false
-is_ident Comment = false
-is_ident Ident = true
-is_ident Number = false
-is_ident Str = false
-is_ident Punct = false
-
-abbrev pub is_str : TokenKind → Bool
-is_str Space = false
-is_str Comment = false
-is_str Ident = false
-is_str Number = false
-is_str Str = true
-is_str Punct = false
-
-abbrev pub is_punct_kind : TokenKind → Bool
-is_punct_kind Space = false
-is_punct_kind Comment = false
-is_punct_kind Ident = false
-is_punct_kind Number = false
-is_punct_kind Str = false
-is_punct_kind Punct = true
-
--- the tokens that are neither blanks nor comments
-abbrev pub seen : List Token → List Token
-seen ts = filter (λ t. is_seen t.kind) ts
-
--- whether a token is this word
-abbrev pub is_word : List ℕ → List ℕ → Token → Bool
-is_word text word t = is_ident t.kind && bytes_eq (bytes_of text t) word
-
--- whether a token is this punctuator
-abbrev pub is_mark : List ℕ → List ℕ → Token → Bool
-is_mark text mark t = is_punct_kind t.kind && bytes_eq (bytes_of text t) mark
 
 -- a token with the one before it, if there is one, and those after it
 pub record Site : Type 0 where
@@ -75,14 +25,6 @@ pub record Site : Type 0 where
 abbrev pub sites : Option Token → List Token → List Site
 sites before [] = []
 sites before (t ∷ ts) = record { before = before; here = t; after = ts } ∷ sites (Some t) ts
-
--- whether a token is `.` or `?.`
-abbrev pub is_access : List ℕ → Token → Bool
-is_access text t = is_mark text (codes ".") t || is_mark text (codes "?.") t
-
--- a word is plain where the token before it, if there is one, isn't `.` or `?.`
-abbrev pub is_plain : List ℕ → List ℕ → Option Token → Token → Bool
-is_plain text word before t = is_word text word t && not (option_map_or (is_access text) before false)
 
 -- whether the first of these tokens is this punctuator
 abbrev pub begins : List ℕ → List ℕ → List Token → Bool

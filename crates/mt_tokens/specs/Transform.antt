@@ -33,7 +33,8 @@ token_refusal (token.UnclosedString place) = fault.Syntax place syntax.UnclosedS
 token_refusal (token.UnclosedComment place) = fault.Syntax place syntax.UnclosedComment
 token_refusal (token.BadByte place) = fault.Syntax place syntax.BadCharacter
 token_refusal (token.Unbalanced place) = fault.Syntax place syntax.UnbalancedBracket
-token_refusal (token.NotYet place) = fault.NotYet place
+token_refusal (token.UnclosedTemplate place) = fault.Syntax place syntax.UnclosedTemplate
+token_refusal (token.UnclosedRegex place) = fault.Syntax place syntax.UnclosedRegex
 token_refusal token.NoMemory = fault.NoMemory
 
 -- the source's refusal for a refusal of its dependencies

@@ -1,30 +1,27 @@
 -- The body of a source is UTF-8.
 use Rattle.std.proofs.Common.{inl, inr, ◌≡◌, ◌≤◌, ◌<◌, ◌+◌, ◌-◌, ◌^◌, ◌&&◌, ◌∙◌, ℕ, suc, Bool, true, false, cond, nat_eq, nat_lt, ltb, List, [], ◌∷◌, ◌++◌, map, take, drop, length, get_or, Option, Some, None, Result, Ok, Err, refl, ap, sym, subst, arith, codes, decimal, IsUtf8, IsCharBoundary}
-use Rattle.std.specs.List.{AllByRecursion, cons_option, filter_map, list_all, starts_with}
+use Rattle.std.specs.List.{All, AllByRecursion, cons_option, filter_map, list_all, starts_with}
 use Rattle.std.specs.Str.{is_utf8}
 use Rattle.std.specs.Str.Lossy.{utf8_valid_len}
 use Rattle.std.proofs.lemmas.Bool.{cases_Bool}
 use Rattle.std.proofs.lemmas.Bool.Decides.{nat_tests}
 use Rattle.std.proofs.lemmas.Fmt.{IsAscii-decimal}
+use Rattle.std.proofs.lemmas.List.Elements.{All-head}
 use Rattle.std.proofs.lemmas.List.Sums.{prefix_len-le-length}
 use Rattle.std.proofs.lemmas.Str.{IsCharBoundary-after_ascii, IsCharBoundary-start, IsUtf8-append, IsUtf8-between, IsUtf8-drop, IsUtf8-from_ascii, IsUtf8-from_is_utf8, IsUtf8-nil}
 use Rattle.mt_tokens.specs.Classes.{is_quote}
-use Rattle.mt_tokens.specs.Comments.{begins_line_end, line_len}
 use Rattle.mt_tokens.specs.Deps.{Dependency, Deps, Edit, Site, argument, between_quotes, closes, dependencies, deps_of, edits_of, is_mark, is_plain, is_simple_string, number_of, replaced, required, seen, sites, strings}
 use Rattle.mt_tokens.specs.declared.dep.DepFault.{DepFault}
 use Rattle.mt_tokens.specs.declared.source.DepKind.TheVariants.{Require}
-use Rattle.mt_tokens.specs.Front.{front_of}
-use Rattle.mt_tokens.specs.Tokens.{Covers, tokens_of}
+use Rattle.mt_tokens.specs.Tokens.{IsCut as IsTokenCut, tokens_of}
 use Rattle.mt_tokens.specs.Transform.{Transformed, body_start, edited, max_dependencies, made_of, read_deps, read_script, transformed}
 use Rattle.mt_tokens.specs.declared.source.PathKind.{PathKind}
 use Rattle.mt_tokens.specs.declared.source.PathKind.TheVariants.{Script, Json}
 use Rattle.mt_tokens.specs.declared.source.SourceFault.TheVariants as fault
 use Rattle.mt_tokens.specs.declared.token.Token.{Token}
 use Rattle.mt_tokens.specs.declared.token.TokenFault.{TokenFault}
-use Rattle.mt_tokens.specs.declared.token.TokenKind.{TokenKind}
-use Rattle.mt_tokens.specs.declared.token.TokenKind.TheVariants.{Comment}
 use Rattle.mt_tokens.proofs.Ascii.{word_ascii}
-use Rattle.mt_tokens.proofs.Covers.{tokens_of_covers}
+use Rattle.mt_tokens.proofs.HasTokens.{tokens_of_cut}
 use Rattle.mt_deps.proofs.SimpleStrings.{quote_within}
 use Rattle.mt_deps.proofs.Strings.{deps_found, passed_on}
 use Rattle.mt_transform.proofs.Transformed.{there_by, transformed-json, transformed-not_utf8, transformed-script}
@@ -106,44 +103,13 @@ edits_cut text ds (t ∷ ts) u few h =
 
 -- ---- where the body begins
 
-abbrev LineEnds : List ℕ → ℕ → Type 0
-LineEnds text n = (n ≤ length text) × (n < length text → 128 ≤ get_or text n 0 → 192 ≤ get_or text n 0)
+begins_by : (text : List ℕ) (t : Token) (ts : List Token) (bang : Bool) → IsUtf8 text → All (IsTokenCut text) (t ∷ ts) → IsCharBoundary text (cond bang t.end 0)
+begins_by text t ts true u cut = (All-head (IsTokenCut text) t ts cut).1
+begins_by text t ts false u cut = IsCharBoundary-start text u
 
-line_by : (b : ℕ) (rest : List ℕ) (ends : Bool) → begins_line_end (b ∷ rest) ≡ ends → LineEnds rest (line_len rest) → LineEnds (b ∷ rest) (cond ends 0 (line_len rest + 1))
-line_by b rest true e h = (omega arith, λ within high. grind (arith, nat_tests))
-line_by b rest false e h =
-    let next : line_len rest + 1 ≡ suc (line_len rest) = omega arith in
-    let inner = h.0 in
-    subst (LineEnds (b ∷ rest)) (sym next) (omega (arith, inner), λ within high. h.1 (omega (arith, within)) high)
-
-line_ends : (text : List ℕ) → LineEnds text (line_len text)
-line_ends [] = (omega arith, λ within high. absurd (omega (arith, within)))
-line_ends (b ∷ rest) = line_by b rest (begins_line_end (b ∷ rest)) refl (line_ends rest)
-
-bang_by : (a b : ℕ) (rest : List ℕ) → a ≡ 35 → b ≡ 33 → front_of 0 (a ∷ b ∷ rest) ≡ Ok (Comment, line_len (a ∷ b ∷ rest))
-bang_by a b rest e f = rw (e, f) refl
-
--- a text that begins with `#!` begins with a comment of one line
-bang_front : (text : List ℕ) → starts_with nat_eq text (codes "#!") ≡ true → front_of 0 text ≡ Ok (Comment, line_len text)
-bang_front [] h = absurd (cc)
-bang_front (a ∷ []) h = absurd (grind (arith, nat_tests))
-bang_front (a ∷ b ∷ rest) h = bang_by a b rest (grind (arith, nat_tests)) (grind (arith, nat_tests))
-
-abbrev length_in : Result (TokenKind × ℕ) TokenFault → ℕ
-length_in (Ok found) = found.1
-length_in (Err e) = 0
-
-begins_by : (text : List ℕ) (t : Token) (ts : List Token) (bang : Bool) → starts_with nat_eq text (codes "#!") ≡ bang → IsUtf8 text → Covers 0 text (t ∷ ts) → IsCharBoundary text (cond bang t.end 0)
-begins_by text t ts true e u covers =
-    let long : t.end - t.start ≡ line_len text = sym (ap length_in covers.1) ∙ ap length_in (bang_front text e) in
-    let start = covers.0 in
-    let end : line_len text ≡ t.end = omega (arith, long, start) in
-    subst (IsCharBoundary text) end (line_ends text)
-begins_by text t ts false e u covers = IsCharBoundary-start text u
-
-begins_between : (text : List ℕ) (ts : List Token) → IsUtf8 text → Covers 0 text ts → IsCharBoundary text (body_start text ts)
-begins_between text [] u covers = IsCharBoundary-start text u
-begins_between text (t ∷ ts) u covers = begins_by text t ts (starts_with nat_eq text (codes "#!")) refl u covers
+begins_between : (text : List ℕ) (ts : List Token) → IsUtf8 text → All (IsTokenCut text) ts → IsCharBoundary text (body_start text ts)
+begins_between text [] u cut = IsCharBoundary-start text u
+begins_between text (t ∷ ts) u cut = begins_by text t ts (starts_with nat_eq text (codes "#!")) u cut
 
 -- ---- what a source becomes
 
@@ -163,7 +129,7 @@ deps_sound strip text ts (Ok found) t u tokens d h =
     let few : length found.deps ≤ max_dependencies = let is = s.0 in grind (arith, nat_tests) in
     let small : length (dependencies text ts) ≤ max_dependencies = subst (λ x. length x.deps ≤ max_dependencies) f few in
     let utf8 : IsUtf8 (edited text (body_start text ts) found.uses) =
-    rw f (edited_utf8 text (body_start text ts) (edits_of text ts) u (begins_between text ts u (tokens_of_covers text ts tokens)) (edits_cut text (dependencies text ts) (strings text ts) u small (strings_quoted text (sites None (seen ts)))))
+    rw f (edited_utf8 text (body_start text ts) (edits_of text ts) u (begins_between text ts u (tokens_of_cut text ts u tokens)) (edits_cut text (dependencies text ts) (strings text ts) u small (strings_quoted text (sites None (seen ts)))))
     in
     subst IsSound s.1 (utf8, few)
 

@@ -18,6 +18,14 @@ pub(crate) fn token_refusal(fault: TokenFault) -> SourceFault
             place,
             why: SyntaxFault::UnclosedComment,
         },
+        TokenFault::UnclosedTemplate { place } => SourceFault::Syntax {
+            place,
+            why: SyntaxFault::UnclosedTemplate,
+        },
+        TokenFault::UnclosedRegex { place } => SourceFault::Syntax {
+            place,
+            why: SyntaxFault::UnclosedRegex,
+        },
         TokenFault::BadByte { place } => SourceFault::Syntax {
             place,
             why: SyntaxFault::BadCharacter,
@@ -26,7 +34,6 @@ pub(crate) fn token_refusal(fault: TokenFault) -> SourceFault
             place,
             why: SyntaxFault::UnbalancedBracket,
         },
-        TokenFault::NotYet { place } => SourceFault::NotYet { place },
         TokenFault::NoMemory => SourceFault::NoMemory,
     }
 }

@@ -6,7 +6,7 @@ ghost use Rattle.std.specs.Cmp.Lexicographic.{pointwise, slice_cmp, nat_list_eq_
 ghost use Rattle.std.specs.Cmp.{partial_equiv_from_equiv};
 ghost use Rattle.std.proofs.Common.{refl};
 
-use mt_containers::{Copies, KeyMap, List, TextKey};
+use crate::{Copies, KeyMap, List, TextKey};
 use std::alloc::{AllocError, Global};
 use std::cmp::Ordering;
 use std::fmt;
