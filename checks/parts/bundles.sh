@@ -9,10 +9,3 @@ read='x = 1 / 2; y = /[/"]/g; z = `a${ {b: "c"}.b }`; é = #p;'
 files_in "$work/tokens" a.js "$read"
 bundle_of "$read" '' a.js >"$work/wanted"
 check "regular expressions and templates are bundled" 0 "$work/wanted" "" "$work/tokens" bundle a.js
-
-# A million open brackets and as many closed ones are read without recursion.
-open="$(head -c 1000000 /dev/zero | tr '\0' '(')"
-closed="$(head -c 1000000 /dev/zero | tr '\0' ')')"
-files_in "$work/million" a.js "$open$closed"
-bundle_of "$open$closed" '' a.js >"$work/wanted"
-check "a million brackets are bundled" 0 "$work/wanted" "" "$work/million" bundle a.js

@@ -24,6 +24,17 @@ fn has_fault(alloc: Global, text: &str, expected: TokenFault) -> bool {
     text.len() <= MAX_TEXT_BYTES && tokens(alloc, text).err() == Some(expected)
 }
 
+/// Whether `text` has so many tokens.
+fn has_count(alloc: Global, text: &str, expected: u32) -> bool {
+    if text.len() > MAX_TEXT_BYTES {
+        return false;
+    }
+    match tokens(alloc, text) {
+        Ok(found) => found.len() == expected,
+        Err(_) => false,
+    }
+}
+
 #[test]
 fn names_blanks_and_marks_are_tokens(rt: HostRuntime) {
     assert!(rt; has_tokens(rt.alloc(), "", &[]));
@@ -152,6 +163,10 @@ fn a_million_open_brackets_are_read_flat(rt: HostRuntime) -> Result<(), Fail> {
         text.push('(')?;
     }
     assert!(rt; has_fault(rt.alloc(), &text, TokenFault::Unbalanced { place: 999_999 }));
+    for _ in 0..1_000_000 {
+        text.push(')')?;
+    }
+    assert!(rt; has_count(rt.alloc(), &text, 2_000_000));
     Ok(())
 }
 

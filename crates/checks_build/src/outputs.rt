@@ -31,14 +31,6 @@ fn becomes(alloc: Global, script: &str, body: &str, names: &[&str]) -> bool {
     output.body() == body.as_bytes() && found.eq(names.iter().copied())
 }
 
-/// The place at which the script has a form that is not read yet.
-fn unread_place(alloc: Global, script: &str) -> Option<u32> {
-    match read(alloc, PathKind::Script, script.as_bytes()) {
-        Err(SourceFault::NotYet { place }) => Some(place),
-        _ => None,
-    }
-}
-
 #[test]
 fn a_script_that_requires_nothing_is_its_own_body(rt: HostRuntime) {
     assert!(rt; becomes(rt.alloc(), "x();", "x();", &[]));
@@ -98,19 +90,28 @@ fn a_property_is_no_requirement(rt: HostRuntime) {
 }
 
 #[test]
-fn other_forms_are_not_read_yet(rt: HostRuntime) {
+fn other_calls_stay(rt: HostRuntime) {
     for script in [
         "require(x)",
-        "import x",
-        "export {}",
         "require",
         r#"require("a" + b)"#,
-        r"require('\x61')",
+        r"require('\1')",
         "require('a', b)",
     ] {
-        assert!(rt; unread_place(rt.alloc(), script) == Some(0));
+        assert!(rt; becomes(rt.alloc(), script, script, &[]));
     }
-    assert!(rt; unread_place(rt.alloc(), "require('a');\nrequire()") == Some(14));
+}
+
+#[test]
+fn imports_are_replaced(rt: HostRuntime) {
+    assert!(rt;
+        becomes(
+            rt.alloc(),
+            r#"import a from "m"; import("\x61");"#,
+            "var a = importDefault(dependencyMap[0]); Promise.resolve(dependencyMap[1]).then(importAll);",
+            &["m", "a"]
+        )
+    );
 }
 
 #[test]
@@ -143,6 +144,8 @@ fn each_refusal_has_its_place(rt: HostRuntime) {
         (b"x = /a".as_slice(), 4, SyntaxFault::UnclosedRegex),
         (b"a\x7F".as_slice(), 1, SyntaxFault::BadCharacter),
         (b"(]".as_slice(), 1, SyntaxFault::UnbalancedBracket),
+        (b"import 7;".as_slice(), 0, SyntaxFault::ImportForm),
+        (b"x; export 1".as_slice(), 3, SyntaxFault::ExportForm),
     ] {
         assert!(rt; breaks_at(rt.alloc(), script, place, why));
     }

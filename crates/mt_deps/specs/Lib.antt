@@ -1,2 +1,5 @@
+pub mod Gathered
+pub mod Groups
 pub mod Numbers
+pub mod Seen
 pub mod Uses

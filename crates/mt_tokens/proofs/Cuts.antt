@@ -6,7 +6,7 @@ use Rattle.std.specs.Option.{IfSome, option_map, option_map_or}
 use Rattle.std.specs.Result.{IfOk}
 use Rattle.std.proofs.lemmas.Bool.{and_parts, cases_Bool, ltb-true}
 use Rattle.std.proofs.lemmas.Bool.Decides.{nat_tests, Decides-eqb}
-use Rattle.std.proofs.lemmas.List.{drop-drop, get_or-drop, get_or-take, get_or_past}
+use Rattle.std.proofs.lemmas.List.{drop-drop, get_or-drop, get_or-take, get_or_past, length-drop}
 use Rattle.std.proofs.lemmas.List.Sums.{prefix_len_passes}
 use Rattle.std.proofs.lemmas.Slice.Eq.{slice_eq-Decides}
 use Rattle.std.proofs.lemmas.Str.{IsCharBoundary-after_ascii, IsUtf8-drop, IsUtf8-nil}
@@ -16,9 +16,9 @@ use Rattle.mt_tokens.specs.Front.{front_of}
 use Rattle.mt_tokens.specs.Names.{code_len, name_escape_len, name_len, private_len, run_after, run_len, start_len, unit_len}
 use Rattle.mt_tokens.specs.Numbers.{and_after, begins_base, begins_number, exponent_len, fraction_len, is_base_letter, is_digit_part, number_len, sign_len}
 use Rattle.mt_tokens.specs.Punctuators.{is_among, is_choice_of_number, of_four, of_one, of_three, of_two, punct_len}
-use Rattle.mt_tokens.specs.Regexes.{begins_regex, body_len, ends_body, is_class_after}
-use Rattle.mt_tokens.specs.Strings.{closing_len, escape_len as taken_len}
-use Rattle.mt_tokens.specs.Templates.{begins_piece, opens_hole, piece_kind, piece_len}
+use Rattle.mt_tokens.specs.Regexes.{begins_regex, body_len, ends_body, is_class_after, regex_of}
+use Rattle.mt_tokens.specs.Strings.{closing_len, escape_len as taken_len, string_of}
+use Rattle.mt_tokens.specs.Templates.{begins_piece, opens_hole, piece_kind, piece_len, piece_of}
 use Rattle.mt_tokens.specs.declared.front.Before.{Before}
 use Rattle.mt_tokens.specs.declared.names.RunOf.{RunOf}
 use Rattle.mt_tokens.specs.declared.names.RunOf.TheVariants.{Blanks, NameParts, Flags}
@@ -27,7 +27,7 @@ use Rattle.mt_tokens.specs.declared.token.TokenKind.TheVariants.{Comment, Regex,
 use Rattle.mt_tokens.specs.declared.token.TokenFault.{TokenFault}
 use Rattle.mt_tokens.specs.declared.token.TokenFault.TheVariants.{UnclosedComment, UnclosedRegex, UnclosedString, UnclosedTemplate}
 use Rattle.mt_tokens.proofs.Characters.{past_char}
-use Rattle.mt_tokens.proofs.Extents.{and_right, body_within, escape_within, first_of, third_of, unit_within}
+use Rattle.mt_tokens.proofs.Extents.{and_right, body_within, code_within, escape_within, first_of, name_within, private_within, start_within, third_of, unit_within}
 use Rattle.mt_tokens.proofs.Fronts.{front_fits}
 
 -- ---- after a byte of ASCII

@@ -1,5 +1,5 @@
 -- The lengths of comments, numbers and strings are within the text.
-use Rattle.std.proofs.Common.{ℕ, suc, Bool, true, false, ◌≡◌, ◌==◌, ◌<◌, ◌≤◌, ◌+◌, ◌-◌, ◌&&◌, ◌||◌, inl, inr, subst, List, [], ◌∷◌, length, take, drop, get_or, arith, refl, sym, ap, ◌∙◌, cond, eqb, nat_lt, Option, Some, None}
+use Rattle.std.proofs.Common.{ℕ, suc, Bool, true, false, ◌≡◌, ◌==◌, ◌<◌, ◌≤◌, ◌+◌, ◌-◌, ◌&&◌, ◌||◌, ◌⊎◌, inl, inr, subst, List, [], ◌∷◌, length, take, drop, get_or, arith, refl, sym, ap, ◌∙◌, cond, eqb, nat_lt, Option, Some, None}
 use Rattle.std.specs.Option.{option_map, IfSome}
 use Rattle.std.specs.List.{starts_with, prefix_len}
 use Rattle.std.proofs.lemmas.List.{length-take, length-drop, get_or_past}

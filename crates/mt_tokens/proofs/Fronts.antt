@@ -1,6 +1,6 @@
 -- The token that a text begins with is not empty, and within the text.
-use Rattle.std.proofs.Common.{Bool, arith, ◌≡◌, ◌==◌, ◌<◌, ◌≤◌, ◌+◌, ◌-◌, true, false, nat_lt, cond, ℕ, List, [], ◌∷◌, length, refl, get_or, take, drop, Result, Ok, Err, Option, Some, None, eqb, sym}
-use Rattle.std.specs.List.{list_all, starts_with}
+use Rattle.std.proofs.Common.{Bool, arith, ◌≡◌, ◌==◌, ◌<◌, ◌≤◌, ◌+◌, ◌-◌, true, false, nat_lt, cond, ℕ, List, [], ◌∷◌, length, ap, refl, ◌&&◌, get_or, take, drop, Result, Ok, Err, Option, Some, None, eqb, sym}
+use Rattle.std.specs.List.{prefix_len, list_all, starts_with}
 use Rattle.std.specs.Result.{IfOk}
 use Rattle.std.specs.Cmp.Lexicographic.{pointwise}
 use Rattle.mt_tokens.specs.Front.{front_of}
@@ -21,6 +21,7 @@ use Rattle.mt_tokens.specs.Punctuators.{punct_len, is_among, of_four, of_three, 
 use Rattle.mt_tokens.specs.declared.token.TokenKind.{TokenKind}
 use Rattle.mt_tokens.specs.declared.token.TokenFault.{TokenFault}
 use Rattle.std.proofs.lemmas.List.{length-take, length-drop}
+use Rattle.std.proofs.lemmas.List.Sums.{prefix_len-le-length}
 use Rattle.std.proofs.lemmas.Bool.Decides.{nat_tests, Decides-eqb}
 use Rattle.std.proofs.lemmas.Bool.{ltb-true}
 use Rattle.std.proofs.lemmas.Slice.Eq.{slice_eq-Decides}

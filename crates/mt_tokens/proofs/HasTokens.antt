@@ -6,10 +6,10 @@ use Rattle.std.specs.Result.{IfOk, IfErr}
 use Rattle.std.proofs.lemmas.List.{append-nil, append_assoc, length-append, length-drop, drop-drop}
 use Rattle.std.proofs.lemmas.List.Elements.{All-append, All-cons, All-nil}
 use Rattle.std.proofs.lemmas.Bool.Decides.{leb_tells}
-use Rattle.std.proofs.lemmas.Str.{IsCharBoundary-from_drop}
+use Rattle.std.proofs.lemmas.Str.{IsCharBoundary-from_drop, IsCharBoundary-start, IsUtf8-drop}
 use Rattle.mt_tokens.specs.Brackets.{Unclosed, closing, innermost_place, is_misfit}
 use Rattle.mt_tokens.specs.Front.{front_of}
-use Rattle.mt_tokens.specs.Tokens.{Covers, FollowOneAnother, HasFault, HasTokens, IsCut, and_then, before_next, closed, end_of, fitting, next_token, open_in, scan, token_at, tokens_of}
+use Rattle.mt_tokens.specs.Tokens.{Covers, EndsUnclosed, FollowOneAnother, HasFault, HasNoNext, HasTokens, IsCut, and_then, before_next, closed, end_from, end_of, fitting, next_token, open_in, scan, token_at, tokens_of}
 use Rattle.mt_tokens.specs.declared.front.Before.{Before}
 use Rattle.mt_tokens.specs.declared.token.Token.{Token}
 use Rattle.mt_tokens.specs.declared.token.TokenKind.{TokenKind}

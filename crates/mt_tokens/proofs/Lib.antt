@@ -1,4 +1,5 @@
 pub mod Ascii
+pub mod Bodies
 pub mod Characters
 pub mod Cuts
 pub mod Extents

@@ -5,7 +5,7 @@ use Rattle.std.proofs.lemmas.Bool.Decides.{nat_tests}
 use Rattle.std.proofs.lemmas.List.{reverse-append, append-nil}
 use Rattle.std.proofs.lemmas.List.Elements.{filter-append}
 use Rattle.mt_tokens.specs.Brackets.{Unclosed, closed_by, closing, first_byte, innermost_place, is_in_template, is_misfit, opening, unclosed}
-use Rattle.mt_tokens.specs.Goals.{goal, is_operand_after, kind_goal, operand_after_innermost}
+use Rattle.mt_tokens.specs.Goals.{goal, is_operand_after, kind_goal, operand_after, operand_after_innermost}
 use Rattle.mt_tokens.specs.Openers.{is_kept_in_template, kept_place}
 use Rattle.mt_tokens.specs.Scanners.{Follows, Stands, kept}
 use Rattle.mt_tokens.specs.Tokens.{before_next, looking_back, open_in}

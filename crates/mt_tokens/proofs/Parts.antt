@@ -1,14 +1,14 @@
 -- The parts of a string: how long they are, and how its value goes on after them.
-use Rattle.std.proofs.Common.{arith, ◌≡◌, ◌==◌, ◌<◌, ◌≤◌, ◌+◌, ◌-◌, ◌&&◌, ℕ, zero, suc, Bool, true, false, cond, nat_lt, List, [], ◌∷◌, ◌++◌, length, get_or, drop, refl, sym, ap, ◌∙◌, append_assoc, Option, Some, None}
+use Rattle.std.proofs.Common.{arith, ◌≡◌, ◌==◌, ◌<◌, ◌≤◌, ◌+◌, ◌-◌, ◌&&◌, ℕ, zero, suc, Bool, true, false, cond, nat_lt, List, [], ◌∷◌, ◌++◌, length, get_or, drop, refl, sym, ap, ◌∙◌, subst, append_assoc, Option, Some, None}
 use Rattle.std.specs.List.{prefix_len}
 use Rattle.std.specs.Option.{IfSome, option_and_then, option_map}
-use Rattle.std.proofs.lemmas.Bool.{and_parts}
+use Rattle.std.proofs.lemmas.Bool.{and_parts, cases_Bool, ltb-true}
 use Rattle.std.proofs.lemmas.Bool.Decides.{nat_tests}
 use Rattle.std.proofs.lemmas.List.{append-nil, drop_all, drop-drop, length-drop}
 use Rattle.std.proofs.lemmas.List.Sums.{prefix_len-le-length}
 use Rattle.mt_tokens.specs.Classes.{char_len, first_char, is_digit, is_hex_digit}
 use Rattle.mt_tokens.specs.Comments.{begins_line_end}
-use Rattle.mt_tokens.specs.Escapes.{after_one, braced_of, char_of, character_of, cooked_from, digits_of, escape_of, is_high, is_low, line_break_len, mark_of, next_unicode, pair_of, paired, part_of, single, spelled, unicode_of, value_of}
+use Rattle.mt_tokens.specs.Escapes.{after_one, braced_of, char_of, character_of, cooked_from, digits_of, escape_of, hex_number, is_high, is_low, line_break_len, mark_of, next_unicode, pair_of, paired, part_of, single, spelled, unicode_of, value_of}
 use Rattle.mt_tokens.specs.Strings.{escape_len}
 use Rattle.mt_tokens.specs.declared.cooking.Code.{Code}
 use Rattle.mt_tokens.specs.declared.cooking.Part.{Part}

@@ -1,9 +1,10 @@
 -- Runs of blanks, of parts of names and of letters after a regular expression.
-use Rattle.std.proofs.Common.{arith, ◌≡◌, ◌<◌, ◌≤◌, ◌+◌, ◌-◌, ℕ, zero, suc, true, false, cond, List, [], ◌∷◌, length, drop, refl, sym, ap, ◌∙◌, nat_lt}
+use Rattle.std.proofs.Common.{arith, ◌≡◌, ◌<◌, ◌≤◌, ◌+◌, ◌-◌, ℕ, zero, suc, Bool, true, false, cond, List, [], ◌∷◌, length, get_or, drop, refl, sym, ap, ◌∙◌, subst, nat_lt}
 use Rattle.std.proofs.lemmas.Bool.Decides.{nat_tests}
-use Rattle.std.proofs.lemmas.List.{drop_all, drop-drop}
+use Rattle.std.proofs.lemmas.List.{drop_all, drop-drop, length-drop}
 use Rattle.mt_tokens.specs.Names.{run_after, run_len, unit_len}
 use Rattle.mt_tokens.specs.declared.names.RunOf.{RunOf}
+use Rattle.mt_tokens.proofs.Walks.{drop_front}
 
 -- what is counted already is passed
 pub run-taken : (of : RunOf) (taken : ℕ) (rest : List ℕ) → taken ≤ length rest → run_after of taken rest ≡ taken + run_len of (drop taken rest)

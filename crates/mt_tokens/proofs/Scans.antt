@@ -1,9 +1,10 @@
 -- The steps of the scan.
-use Rattle.std.proofs.Common.{arith, ◌≡◌, ◌<◌, ◌≤◌, ◌-◌, ℕ, zero, suc, Bool, true, false, cond, List, [], ◌∷◌, ◌++◌, length, nat_lt, refl, sym, ap, ◌∙◌, Some, None, Result, Ok, Err}
+use Rattle.std.proofs.Common.{arith, ◌≡◌, ◌<◌, ◌≤◌, ◌+◌, ◌-◌, ℕ, zero, suc, Bool, true, false, cond, List, [], ◌∷◌, ◌++◌, length, drop, nat_lt, refl, sym, ap, ◌∙◌, Option, Some, None, Result, Ok, Err}
 use Rattle.std.specs.Option.{option_map_or}
 use Rattle.std.proofs.lemmas.List.{length-append}
 use Rattle.std.proofs.lemmas.Bool.Decides.{nat_tests}
-use Rattle.mt_tokens.specs.Brackets.{closing, innermost_place, is_misfit}
+use Rattle.mt_tokens.specs.Brackets.{Unclosed, closing, innermost_place, is_misfit}
+use Rattle.mt_tokens.specs.Front.{front_of}
 use Rattle.mt_tokens.specs.Tokens.{and_then, before_next, closed, end_from, end_of, fitting, next_token, open_in, scan, token_at}
 use Rattle.mt_tokens.specs.declared.front.Before.{Before}
 use Rattle.mt_tokens.specs.declared.token.Token.{Token}

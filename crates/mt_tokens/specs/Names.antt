@@ -1,5 +1,5 @@
 -- Blanks, names, and runs of characters.
-use Rattle.std.specs.Prelude.{ℕ, ◌+◌, ◌-◌, ◌&&◌, ◌==◌, nat_lt, List, [], ◌∷◌, drop, slice_index, if◌then◌else◌}
+use Rattle.std.specs.Prelude.{ℕ, Bool, ◌+◌, ◌-◌, ◌&&◌, ◌==◌, nat_lt, List, [], ◌∷◌, drop, slice_index, if◌then◌else◌}
 use Rattle.std.specs.List.{prefix_len}
 use Rattle.mt_tokens.specs.Classes.{first_char, char_len, is_hex_digit, is_part, is_space, is_start}
 use Rattle.mt_tokens.specs.declared.names.RunOf.{RunOf}

@@ -1,5 +1,5 @@
 -- The tokens of a text.
-use Rattle.std.specs.Prelude.{ℕ, zero, suc, ◌+◌, ◌<◌, ◌≡◌, ◌⊎◌, List, [], ◌∷◌, ◌++◌, length, take, drop, reverse, nat_lt, slice_get, if◌then◌else◌, Some, Result, Ok, Err, IsCharBoundary}
+use Rattle.std.specs.Prelude.{ℕ, zero, suc, ◌+◌, ◌-◌, ◌<◌, ◌≡◌, ◌⊎◌, List, [], ◌∷◌, ◌++◌, length, take, drop, reverse, nat_lt, slice_get, if◌then◌else◌, Some, Option, Result, Ok, Err, All, IsCharBoundary}
 use Rattle.std.specs.Option.{option_map, option_map_or}
 use Rattle.mt_tokens.specs.Brackets.{Unclosed, closing, innermost_place, is_in_template, is_misfit, unclosed}
 use Rattle.mt_tokens.specs.Front.{front_of}

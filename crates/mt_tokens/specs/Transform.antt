@@ -39,7 +39,8 @@ token_refusal token.NoMemory = fault.NoMemory
 
 -- the source's refusal for a refusal of its dependencies
 abbrev pub dep_refusal : DepFault → SourceFault
-dep_refusal (dep.NotYet place) = fault.NotYet place
+dep_refusal (dep.ImportForm place) = fault.Syntax place syntax.ImportForm
+dep_refusal (dep.ExportForm place) = fault.Syntax place syntax.ExportForm
 dep_refusal dep.NoMemory = fault.NoMemory
 
 -- the text from a place on, with the edits made one after another

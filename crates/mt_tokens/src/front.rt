@@ -23,7 +23,11 @@ pub(crate) struct Before {
 
 /// The kind and the length of the token that `rest` begins with, at `place` in the text, where it begins with neither blanks
 /// nor a comment nor a name: of the first kind that fits. Refused where none fits.
-fn other_token(before: Before, place: u32, rest: &[u8]) -> Result<(TokenKind, usize), TokenFault>
+fn other_token(
+    before: Before,
+    place: u32,
+    rest: &[u8],
+) -> Result<(TokenKind, usize), TokenFault>
     ensures { result ≡ other_of before place rest.now }
 {
     let [first, ..] = rest else {

@@ -5,14 +5,10 @@ use Rattle.std.specs.Str.{is_utf8}
 use Rattle.std.specs.Str.Lossy.{utf8_valid_len}
 use Rattle.std.proofs.lemmas.Bool.{cases_Bool}
 use Rattle.std.proofs.lemmas.Bool.Decides.{nat_tests}
-use Rattle.std.proofs.lemmas.Fmt.{IsAscii-decimal}
-use Rattle.std.proofs.lemmas.List.Elements.{All-head}
-use Rattle.std.proofs.lemmas.List.Sums.{prefix_len-le-length}
+use Rattle.std.proofs.lemmas.List.Elements.{All-head, recursion_from_All}
 use Rattle.std.proofs.lemmas.Str.{IsCharBoundary-after_ascii, IsCharBoundary-start, IsUtf8-append, IsUtf8-between, IsUtf8-drop, IsUtf8-from_ascii, IsUtf8-from_is_utf8, IsUtf8-nil}
-use Rattle.mt_tokens.specs.Classes.{is_quote}
-use Rattle.mt_tokens.specs.Deps.{Dependency, Deps, Edit, Site, argument, between_quotes, closes, dependencies, deps_of, edits_of, is_mark, is_plain, is_simple_string, number_of, replaced, required, seen, sites, strings}
+use Rattle.mt_tokens.specs.Deps.{Deps, Edit, deps_of}
 use Rattle.mt_tokens.specs.declared.dep.DepFault.{DepFault}
-use Rattle.mt_tokens.specs.declared.source.DepKind.TheVariants.{Require}
 use Rattle.mt_tokens.specs.Tokens.{IsCut as IsTokenCut, tokens_of}
 use Rattle.mt_tokens.specs.Transform.{Transformed, body_start, edited, max_dependencies, made_of, read_deps, read_script, transformed}
 use Rattle.mt_tokens.specs.declared.source.PathKind.{PathKind}
@@ -20,17 +16,12 @@ use Rattle.mt_tokens.specs.declared.source.PathKind.TheVariants.{Script, Json}
 use Rattle.mt_tokens.specs.declared.source.SourceFault.TheVariants as fault
 use Rattle.mt_tokens.specs.declared.token.Token.{Token}
 use Rattle.mt_tokens.specs.declared.token.TokenFault.{TokenFault}
-use Rattle.mt_tokens.proofs.Ascii.{word_ascii}
 use Rattle.mt_tokens.proofs.HasTokens.{tokens_of_cut}
-use Rattle.mt_deps.proofs.SimpleStrings.{quote_within}
-use Rattle.mt_deps.proofs.Strings.{deps_found, passed_on}
+use Rattle.mt_deps.specs.Uses.{IsUseCut}
+use Rattle.mt_deps.proofs.Replaced.{deps_sound as uses_sound}
 use Rattle.mt_transform.proofs.Transformed.{there_by, transformed-json, transformed-not_utf8, transformed-script}
 
 -- ---- a text with edits
-
--- an edit cuts between characters, and puts UTF-8 there
-abbrev IsCut : List ℕ → Edit → Type 0
-IsCut text e = IsCharBoundary text e.start × IsCharBoundary text e.end × IsUtf8 e.text
 
 cut_utf8 : (text : List ℕ) (at start : ℕ) (late : Bool) → nat_lt start at ≡ late → IsUtf8 text → IsCharBoundary text at → IsCharBoundary text start → IsUtf8 (take (start - at) (drop at text))
 cut_utf8 text at start true e u b c =
@@ -38,68 +29,12 @@ cut_utf8 text at start true e u b c =
     subst (λ n. IsUtf8 (take n (drop at text))) none IsUtf8-nil
 cut_utf8 text at start false e u b c = let within : at ≤ start = grind (arith, nat_tests) in IsUtf8-between text at start u within b c
 
-edited_utf8 : (text : List ℕ) (at : ℕ) (es : List Edit) → IsUtf8 text → IsCharBoundary text at → AllByRecursion (IsCut text) es → IsUtf8 (edited text at es)
+edited_utf8 : (text : List ℕ) (at : ℕ) (es : List Edit) → IsUtf8 text → IsCharBoundary text at → AllByRecursion (IsUseCut text) es → IsUtf8 (edited text at es)
 edited_utf8 text at [] u b h = IsUtf8-drop text at u b
 edited_utf8 text at (e ∷ es) u b h =
     IsUtf8-append (take (e.start - at) (drop at text) ++ e.text) (edited text e.end es)
     (IsUtf8-append (take (e.start - at) (drop at text)) e.text (cut_utf8 text at e.start (nat_lt e.start at) refl u b h.0.0) h.0.2)
     (edited_utf8 text e.end es u h.0.1 h.1)
-
--- ---- the strings that are replaced
-
--- a string between quotes
-abbrev IsQuoted : List ℕ → Token → Type 0
-IsQuoted text t = (is_quote (get_or text t.start 0) ≡ true) × (is_quote (get_or text (t.end - 1) 0) ≡ true) × (2 ≤ t.end)
-
-quoted : (text : List ℕ) (t : Token) → is_simple_string text t ≡ true → IsQuoted text t
-quoted text t h = (grind arith, grind arith, grind (arith, nat_tests))
-
-middle : (a b c : Bool) → (a && b && c) ≡ true → b ≡ true
-middle true true c h = refl
-middle true false c h = h
-middle false b c h = absurd (cc)
-
-argument_simple : (text : List ℕ) (ts : List Token) (t : Token) → argument text ts ≡ Some t → is_simple_string text t ≡ true
-argument_simple text [] t h = absurd (cc)
-argument_simple text (a ∷ []) t h = absurd (cc)
-argument_simple text (a ∷ s ∷ rest) t h =
-    let c = there_by (is_mark text (codes "(") a && is_simple_string text s && closes text rest) s t h in
-    subst (λ x. is_simple_string text x ≡ true) c.1 (middle (is_mark text (codes "(") a) (is_simple_string text s) (closes text rest) c.0)
-
-required_quoted : (text : List ℕ) (s : Site) (t : Token) → required text s ≡ Some t → IsQuoted text t
-required_quoted text s t h = quoted text t (argument_simple text s.after t (passed_on (is_plain text (codes "require") s.before s.here) (argument text s.after) t h))
-
-cons_quoted : (text : List ℕ) (s : Site) (o : Option Token) (ts : List Token) → required text s ≡ o → AllByRecursion (IsQuoted text) ts → AllByRecursion (IsQuoted text) (cons_option o ts)
-cons_quoted text s None ts e h = h
-cons_quoted text s (Some t) ts e h = (required_quoted text s t e, h)
-
-strings_quoted : (text : List ℕ) (ss : List Site) → AllByRecursion (IsQuoted text) (filter_map (required text) ss)
-strings_quoted text [] = tt
-strings_quoted text (s ∷ ss) = cons_quoted text s (required text s) (filter_map (required text) ss) refl (strings_quoted text ss)
-
-before_quote : (text : List ℕ) (at : ℕ) → is_quote (get_or text at 0) ≡ true → IsCharBoundary text at
-before_quote text at h = let w = quote_within text at h in let within = w.0 in let low = w.1 in (omega (arith, within), λ lt high. absurd (omega (arith, low, high)))
-
-after_quote : (text : List ℕ) (end : ℕ) → IsUtf8 text → is_quote (get_or text (end - 1) 0) ≡ true → 2 ≤ end → IsCharBoundary text end
-after_quote text end u h two =
-    let w = quote_within text (end - 1) h in
-    let is : (end - 1) + 1 ≡ end = omega (arith, two) in
-    subst (IsCharBoundary text) is (IsCharBoundary-after_ascii text (end - 1) u w.0 w.1)
-
-number_few : (name : List ℕ) (ds : List Dependency) → length ds ≤ max_dependencies → number_of name Require ds < 2 ^ 64
-number_few name ds few = let n : number_of name Require ds ≤ length ds = prefix_len-le-length _ ds in omega (arith, n, few)
-
-word_utf8 : (bs : List ℕ) → list_all (λ b. ltb b 128) bs ≡ true → IsUtf8 bs
-word_utf8 bs h = IsUtf8-from_ascii bs (word_ascii bs h)
-
-text_utf8 : (n : ℕ) → n < 2 ^ 64 → IsUtf8 (codes "dependencyMap[" ++ decimal n ++ codes "]")
-text_utf8 n small =
-    IsUtf8-append (codes "dependencyMap[" ++ decimal n) (codes "]") (IsUtf8-append (codes "dependencyMap[") (decimal n) (word_utf8 (codes "dependencyMap[") refl) (IsUtf8-from_ascii (decimal n) (IsAscii-decimal n small))) (word_utf8 (codes "]") refl)
-
-edits_cut : (text : List ℕ) (ds : List Dependency) (ts : List Token) → IsUtf8 text → length ds ≤ max_dependencies → AllByRecursion (IsQuoted text) ts → AllByRecursion (IsCut text) (map (replaced text ds) ts)
-edits_cut text ds [] u few h = tt
-edits_cut text ds (t ∷ ts) u few h =
-    ((before_quote text t.start h.0.0, after_quote text t.end u h.0.1 h.0.2, text_utf8 (number_of (between_quotes text t) Require ds) (number_few (between_quotes text t) ds few)), edits_cut text ds ts u few h.1)
 
 -- ---- where the body begins
 
@@ -124,13 +59,12 @@ few_by false made t h = (refl, cc)
 deps_sound : (strip : Bool) (text : List ℕ) (ts : List Token) (r : Result Deps DepFault) (t : Transformed) → IsUtf8 text → tokens_of text ≡ Ok ts → deps_of text ts ≡ r → read_deps strip text ts r ≡ Ok t → IsSound t
 deps_sound strip text ts (Err e) t u tokens d h = absurd (cc)
 deps_sound strip text ts (Ok found) t u tokens d h =
-    let f = deps_found text ts found d in
     let s = few_by (nat_lt max_dependencies (length found.deps)) (made_of strip text ts found) t h in
     let few : length found.deps ≤ max_dependencies = let is = s.0 in grind (arith, nat_tests) in
-    let small : length (dependencies text ts) ≤ max_dependencies = subst (λ x. length x.deps ≤ max_dependencies) f few in
-    let utf8 : IsUtf8 (edited text (body_start text ts) found.uses) =
-    rw f (edited_utf8 text (body_start text ts) (edits_of text ts) u (begins_between text ts u (tokens_of_cut text ts u tokens)) (edits_cut text (dependencies text ts) (strings text ts) u small (strings_quoted text (sites None (seen ts)))))
-    in
+    let cut = tokens_of_cut text ts u tokens in
+    let small : length found.deps < 2 ^ 64 = omega (arith, few) in
+    let uses = (uses_sound text ts found u (recursion_from_All (IsTokenCut text) ts cut) d).0 small in
+    let utf8 : IsUtf8 (edited text (body_start text ts) found.uses) = edited_utf8 text (body_start text ts) found.uses u (begins_between text ts u cut) uses in
     subst IsSound s.1 (utf8, few)
 
 read_sound : (strip : Bool) (text : List ℕ) (r : Result (List Token) TokenFault) (t : Transformed) → IsUtf8 text → tokens_of text ≡ r → read_script strip text r ≡ Ok t → IsSound t

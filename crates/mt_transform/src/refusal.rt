@@ -43,7 +43,14 @@ pub(crate) fn dep_refusal(fault: DepFault) -> SourceFault
     ensures { result ≡ refusal_of_deps fault }
 {
     match fault {
-        DepFault::NotYet { place } => SourceFault::NotYet { place },
+        DepFault::ImportForm { place } => SourceFault::Syntax {
+            place,
+            why: SyntaxFault::ImportForm,
+        },
+        DepFault::ExportForm { place } => SourceFault::Syntax {
+            place,
+            why: SyntaxFault::ExportForm,
+        },
         DepFault::NoMemory => SourceFault::NoMemory,
     }
 }

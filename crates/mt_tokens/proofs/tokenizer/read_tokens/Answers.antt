@@ -1,8 +1,9 @@
 -- Each exit answers what the scan does.
-use Rattle.std.proofs.Common.{arith, [], ◌∷◌, ◌++◌, ◌-◌, ap, length, sym, inl, inr, ◌≡◌, ◌∙◌, refl, Some, None}
+use Rattle.std.proofs.Common.{arith, [], ◌∷◌, ◌++◌, ◌-◌, ap, length, sym, inl, inr, ◌≡◌, ◌∙◌, refl, subst, Some, None}
 use Rattle.std.proofs.lemmas.List.{length-append}
 use Rattle.std.proofs.lemmas.Result.{err_from_is_err_and}
-use Rattle.mt_tokens.specs.Tokens.{open_in, scan, tokens_of}
+use Rattle.mt_tokens.specs.Scanners.{Follows}
+use Rattle.mt_tokens.specs.Tokens.{before_next, end_of, open_in, scan, tokens_of}
 use Rattle.mt_tokens.specs.Brackets.{innermost_place}
 use Rattle.mt_tokens.proofs.Scans.{answer_at_fault, answer_at_misfit, answer_at_token, answer_at_end, closed_none, closed_some, end-push}
 use Rattle.mt_tokens.proofs.tokenizer.read_tokens.Goals as goal

@@ -1,0 +1,108 @@
+//! The ranges of a text that are replaced.
+ghost use Rattle.std.specs.Prelude.{◌≡◌, ◌++◌, IfOk, OnOk, option_to_list};
+ghost use Rattle.mt_tokens.specs.Deps.{form_end, use_of};
+ghost use Rattle.mt_tokens.specs.Replacements.{form_text, import_call_text, map_entry};
+
+use crate::replacing::{put_form, put_import_call, put_map_entry};
+use mt_containers::List;
+use mt_tokens::{Bytes, Form, Found, Named, Text, Token, Use};
+use std::alloc::{AllocError, Global};
+
+/// The text of bytes that are UTF-8; others are answered as want of memory.
+pub(crate) fn text_of(bytes: Bytes) -> Result<Text, AllocError>
+    ensures { IfOk result (λ text. text ≡ bytes) }
+{
+    match String::from_utf8(bytes.into_vec()) {
+        Ok(string) => Ok(Text::from_string(string)),
+        Err(_) => Err(AllocError),
+    }
+}
+
+/// The place after what a form replaces that begins with this word.
+fn end_of_form(word: Token, form: &Form) -> u32
+    ensures { result ≡ form_end word form.now }
+{
+    match form {
+        Form::Import { named, .. } => named.end,
+        Form::ExportFrom { named, .. } => named.end,
+        Form::ExportList { end, .. } => *end,
+        Form::ExportDefault { end, .. } => *end,
+        Form::ExportDeclared { .. } => word.end,
+    }
+}
+
+/// The number of a module takes the place of its string in a call of `require`.
+fn required_use(alloc: Global, number: usize, named: &Named) -> Result<Use, AllocError>
+    ensures { IfOk result (λ u. u ≡ record { start = named.now.string.start; end = named.now.string.end; text = map_entry number }) }
+{
+    let mut out = Bytes::new(alloc);
+    put_map_entry(alloc, &mut out, number)?;
+    let text = text_of(out)?;
+    let Token { start, end, .. } = named.string;
+    Ok(Use { start, end, text })
+}
+
+/// What takes the place of a call of `import`.
+fn call_use(alloc: Global, number: usize, word: Token, named: &Named) -> Result<Use, AllocError>
+    ensures { IfOk result (λ u. u ≡ record { start = word.start; end = named.now.end; text = import_call_text number }) }
+{
+    let mut out = Bytes::new(alloc);
+    put_import_call(alloc, &mut out, number)?;
+    let text = text_of(out)?;
+    let start = word.start;
+    let end = named.end;
+    Ok(Use { start, end, text })
+}
+
+/// What takes the place of a statement.
+fn statement_use(
+    alloc: Global,
+    bytes: &[u8],
+    number: usize,
+    word: Token,
+    form: &Form,
+) -> Result<Use, AllocError>
+    ensures { IfOk result (λ u. u ≡ record { start = word.start; end = form_end word form.now; text = form_text bytes.now number form.now }) }
+{
+    let mut out = Bytes::new(alloc);
+    put_form(alloc, &mut out, bytes, number, form)?;
+    let text = text_of(out)?;
+    let start = word.start;
+    let end = end_of_form(word, form);
+    Ok(Use { start, end, text })
+}
+
+/// What takes the place of what is found, if something does.
+fn use_found(
+    alloc: Global,
+    bytes: &[u8],
+    number: usize,
+    found: &Found,
+) -> Result<Option<Use>, AllocError>
+    ensures { IfOk result (λ u. u ≡ use_of bytes.now number found.now) }
+{
+    match found {
+        Found::Require(named) => Ok(Some(required_use(alloc, number, named)?)),
+        Found::ImportCall { word, named } => Ok(Some(call_use(alloc, number, *word, named)?)),
+        Found::Dynamic => Ok(None),
+        Found::Statement { word, form } => {
+            Ok(Some(statement_use(alloc, bytes, number, *word, form)?))
+        }
+    }
+}
+
+/// Adds what takes the place of what is found.
+pub(crate) fn put_use(
+    alloc: Global,
+    bytes: &[u8],
+    uses: &mut List<Use>,
+    number: usize,
+    found: &Found,
+) -> Result<(), AllocError>
+    ensures { OnOk result (uses.new ≡ uses.old ++ option_to_list (use_of bytes.now number found.now)) }
+{
+    if let Some(one) = use_found(alloc, bytes, number, found)? {
+        uses.push(one)?;
+    }
+    Ok(())
+}
