@@ -23,6 +23,7 @@ mod tokenizer;
 mod words;
 
 pub use classes::{byte_at, is_quote_byte};
+pub use comments::begins_line_end_at;
 pub use cooking::cook;
 pub use dep::{Dep, DepFault, Mark, Use};
 pub use depths::{is_closing_token, is_opening_token};
