@@ -1,7 +1,7 @@
 #!/usr/bin/env bash
 # Measures metro on made folders: 1,000, 10,000 and 50,000 small modules that require each other, 64 MB of source in
 # 100 files, 5,000 modules of 1 KiB beside `cat` of the same files, and 2,000 modules of 1,000 edges; then replays over 1,000 small modules, of 2,000
-# edits that are built one by one and of 65,536 changes; then single modules of many tokens. Run by hand, after `rt ci` has left the program, or with
+# edits that are built one by one and of 65,536 changes. Run by hand, after `rt ci` has left the program, or with
 # METRO_PROGRAM naming another one.
 set -eu
 top="$(cd "$(dirname "$0")/.." && pwd)"
@@ -168,32 +168,3 @@ edits 2000 1 build >"$work/edits"
 replayed "2000 edits of one module with a build each" "$work/edits" 2001
 edits 65536 1000 "" >"$work/changes"
 replayed "65536 changes of 1000 modules with one build" "$work/changes" 2
-
-# repeated NAME HEAD MIDDLE TAIL: one module of 8 and one of 16 MB, with HEAD so many times, MIDDLE, and TAIL as often.
-repeated() {
-  local size seconds peak half
-  half=""
-  for size in 8388608 16777216; do
-    mkdir -p "$work/repeated"
-    python3 - "$work/repeated/index.js" "$size" "$2" "$3" "$4" <<'PY'
-import sys
-path, size, head, middle, tail = sys.argv[1:]
-count = (int(size) - len(middle.encode())) // len((head + tail).encode())
-with open(path, "w", encoding="utf-8") as file:
-    file.write(head * count + middle + tail * count)
-PY
-    read -r seconds peak <<<"$(timed "$work/repeated" bundle /dev/null 2)"
-    [ -n "$half" ] || half="$seconds"
-  done
-  echo "$1: $seconds s for 16 MB, $(python3 -c "print('%.2f' % ($seconds / $half))") times 8 MB (wanted: 2.2), peak $peak KB"
-}
-
-repeated '`;`' ';' '' ''
-repeated '`a;`' 'a;' '' ''
-repeated 'divisions after parentheses' '(1)/a/' '1' ''
-repeated 'regular expressions after blocks' '{}/a/g;' '' ''
-repeated 'regular expressions after comments' '/**/ /x/;' '' ''
-repeated 'nested templates' '`${' '1' '}`'
-repeated 'nested parentheses' '(' '1' ')'
-repeated 'a name above U+007F' 'é' '' ''
-repeated 'a name of escapes' '\u{e9}' '' ''

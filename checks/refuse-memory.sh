@@ -16,38 +16,7 @@ program="${METRO_PROGRAM:-$top/crates/metro_program/out/metro_program}"
 work="$(mktemp -d)"
 trap 'rm -rf "$work"' EXIT
 
-# The library counts the calls that ask for memory, and answers the one of the number REFUSE_AT with nothing; then it makes
-# the file that REFUSE_MARK names.
-cat >"$work/refuse.c" <<'C'
-#include <errno.h>
-#include <fcntl.h>
-#include <stddef.h>
-#include <stdlib.h>
-#include <unistd.h>
-
-extern void *__libc_malloc(size_t);
-extern void *__libc_calloc(size_t, size_t);
-extern void *__libc_realloc(void *, size_t);
-
-static long calls = 0, refused_at = -1;
-
-static int is_refused(void) {
-  if (refused_at < 0) {
-    const char *text = getenv("REFUSE_AT");
-    refused_at = text ? atol(text) : 0;
-  }
-  if (__atomic_add_fetch(&calls, 1, __ATOMIC_SEQ_CST) != refused_at) return 0;
-  int mark = open(getenv("REFUSE_MARK"), O_CREAT | O_WRONLY | O_CLOEXEC, 0600);
-  if (mark >= 0) close(mark);
-  errno = ENOMEM;
-  return 1;
-}
-
-void *malloc(size_t size) { return is_refused() ? NULL : __libc_malloc(size); }
-void *calloc(size_t count, size_t size) { return is_refused() ? NULL : __libc_calloc(count, size); }
-void *realloc(void *old, size_t size) { return is_refused() ? NULL : __libc_realloc(old, size); }
-C
-cc -O1 -shared -fPIC -o "$work/refuse.so" "$work/refuse.c" || exit 1
+cc -O1 -shared -fPIC -o "$work/faulty.so" "$top/checks/faulty.c" || exit 1
 
 mkdir "$work/folder"
 printf 'require("./b.js");' >"$work/folder/index.js"
@@ -56,8 +25,8 @@ printf 'put /b.js 1\n(\nbuild\nrescan\nbuild\nbuild\ndel /b.js\nput /index.js 2\
 
 # run COMMAND NAME N: one run with the N-th allocation refused, or none at 0; what it leaves goes to files under NAME.
 run() {
-  (cd "$work/folder" && exec timeout 60 env LD_PRELOAD="$work/refuse.so" REFUSE_AT="$3" REFUSE_MARK="$work/$2.mark" \
-    "$program" "$1" index.js) >"$work/$2.out" 2>"$work/$2.log" <"$work/script"
+  (cd "$work/folder" && exec timeout 60 env LD_PRELOAD="$work/faulty.so" FAULT_IN=memory FAULT_AT="$3" \
+    FAULT_MARK="$work/$2.mark" "$program" "$1" index.js) >"$work/$2.out" 2>"$work/$2.log" <"$work/script"
   echo "$?" >"$work/$2.status"
 }
 

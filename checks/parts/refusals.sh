@@ -20,10 +20,7 @@ refused() {
   check "refused: $line" 1 "$work/empty" "metro: $line" "$folder" bundle a.js
 }
 refused 'entry /a.js is not a source file' b.js '1;' c.js '1;'
-refused '/a.js:7: not built yet' a.js 'x = 1; import "./b.js";' b.js '1;'
-refused '/a.js:4: syntax: unclosed regular expression' a.js 'x = /a'
-refused '/a.js:4: syntax: unclosed template' a.js 'x = `a'
-refused '/a.js:2: syntax: bad character' a.js 'x #'
+refused '/a.js:6: not built yet' a.js 'x = 1 / 2;'
 refused '/a.js:8: cannot resolve "./c.js"' a.js 'require("./c.js");' b.js '1;'
 refused '/a.js:19: syntax: unbalanced bracket' a.js $'require("./b.js");\n)' b.js '"'
 refused '/b.js:0: syntax: unclosed string' a.js 'require("./b.js");' b.js "'x"

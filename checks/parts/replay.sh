@@ -46,25 +46,8 @@ replay_logless() {
   judge "a fault of the log changes no status of a replay: $1" "$2" "$got" "$work/wanted"
 }
 
-# cited: whether the tests of the program cite the length and the digest of the bundle on the input.
-cited() {
-  line "" >"$work/tail"
-  if grep -qF -- "$(cat "$work/tail")" "$top/crates/metro_program/src/tests/written.rt"; then
-    passed=$((passed + 1))
-  else
-    failed=$((failed + 1))
-    echo "failed: the tests cite no bundle of$(cat "$work/tail")"
-  fi
-}
-
 first="revision 1 changes 0 modules 1 added 1 modified 0 deleted 0"
 required='require(dependencyMap[0]);'
-
-# The bundles that the tests of the program tell of.
-cited < <(bundle_of '1;' '' index.js)
-cited < <(bundle_of 'x();' '' index.js)
-cited < <(bundle_of '2;' '' index.js)
-cited < <(bundle_of "$required" 1 index.js '1;' '' a.js)
 
 # A circle that is left and entered again: its paths keep their numbers.
 folder="$work/circle"

@@ -206,7 +206,7 @@ fn reached(edges: u32, pins: u32) -> u32 {
     nodes
 }
 
-/// The numbers of the set bits below 4, the first of them in the place of the bit `from`.
+/// The numbers of the set bits below 4, counted from the bit `from`.
 fn bits(alloc: Global, number: u32, from: u32) -> Result<List<u32>, Fail> {
     let mut numbers = List::new(alloc);
     for bit in 0..4 {

@@ -1,6 +1,6 @@
 -- Each state is bounded: its files and its numbered paths are among the first files and those that were changed.
-use Rattle.std.proofs.Common.{inl, inr, ◌⊎◌, ◌≡◌, ◌≤◌, ◌<◌, ◌+◌, ◌-◌, ℕ, Bool, true, false, cond, List, [], ◌∷◌, ◌++◌, map, length, Option, Some, None, Result, Ok, Err, refl, ap, sym, subst, ◌∙◌, ◌==◌, if◌then◌else◌, append_assoc, arith, length-append}
-use Rattle.std.specs.List.{list_all, list_any, slice_get, IsDistinct}
+use Rattle.std.proofs.Common.{inl, inr, ◌⊎◌, ◌≡◌, ◌≤◌, ◌<◌, ◌+◌, ◌-◌, ℕ, Bool, true, false, cond, List, [], ◌∷◌, ◌++◌, map, length, Option, Some, None, Ok, refl, ap, sym, subst, ◌∙◌, ◌==◌, if◌then◌else◌, append_assoc, arith, length-append}
+use Rattle.std.specs.List.{list_all, slice_get, IsDistinct}
 use Rattle.std.specs.Option.{IfSome, is_some, option_and_then}
 use Rattle.std.specs.Str.{bytes_eq}
 use Rattle.std.specs.Ordering.{nat_cmp, eq_by_cmp}
@@ -22,7 +22,7 @@ use Rattle.mt_files.specs.declared.file_map.Entry.{Entry}
 use Rattle.mt_files.proofs.PathLists.{Has, append_left, append_right, has_head, has_key}
 use Rattle.mt_files.proofs.Reach.{reach_ascending}
 use Rattle.mt_io.proofs.Children.{tied_is}
-use Rattle.mt_revision.specs.Numberings.{extended, has_path}
+use Rattle.mt_revision.specs.Numberings.{has_path}
 use Rattle.mt_revision.specs.Revisions.{next_number}
 use Rattle.mt_revision.specs.declared.revision.Revision.{Revision}
 use Rattle.mt_revision.proofs.Extensions.{ascending_distinct, extended_distinct, extended_member}

@@ -1,5 +1,5 @@
 -- What the plan of a bundle says.
-use Rattle.std.proofs.Common.{inl, inr, ◌⊎◌, ◌≡◌, ◌∙◌, ℕ, List, [], ◌∷◌, Result, Ok, Err, refl, ap, sym, subst, arith}
+use Rattle.std.proofs.Common.{inl, inr, ◌≡◌, ◌∙◌, ℕ, List, [], ◌∷◌, Result, Ok, Err, refl, ap, sym, subst, arith}
 use Rattle.std.specs.List.{IsDistinct}
 use Rattle.std.specs.Str.{bytes_eq}
 use Rattle.mt_io.specs.Files.{Files}
@@ -18,13 +18,13 @@ use Rattle.mt_io.specs.Seen.{Seen, Stopped as Began, Wrote}
 use Rattle.mt_io.proofs.Seen.{stopped_all, stopped_none, wrote_none}
 use Rattle.mt_files.specs.declared.build_fault.BuildFault.TheVariants as fault_of
 use Rattle.mt_revision.specs.Revisions.{bundle_of}
-use Rattle.mt_report.specs.Outcomes.{build_outcome, crawl_outcome, status_of}
-use Rattle.mt_report.specs.declared.outcome.Outcome.TheVariants.{Done, NoMemory, ReadFailed, Refused, WriteFailed}
+use Rattle.mt_report.specs.Outcomes.{build_outcome, crawl_outcome}
+use Rattle.mt_report.specs.declared.outcome.Outcome.TheVariants.{Done, NoMemory, Refused, WriteFailed}
 use Rattle.metro_program.specs.declared.state.NextBuild.{NextBuild}
 use Rattle.metro_program.specs.Progress.{IsOwn, Keeps}
 use Rattle.metro_program.specs.States.{AreEntries, State, opened}
 use Rattle.metro_program.specs.Builds.{build_with, fresh_build, next_build, numbering_after}
-use Rattle.metro_program.specs.Bundle.{Bundles, HasFirstFault, IsBundle, build_plan, bundle_plan, first_numbering, snapshot_plan}
+use Rattle.metro_program.specs.Bundle.{Bundles, build_plan, bundle_plan, first_numbering, snapshot_plan}
 use Rattle.metro_program.specs.Plans.{Plan, without_bytes}
 use Rattle.metro_program.proofs.Bounded.{all_numbered}
 use Rattle.metro_program.proofs.IsFresh.{content_traversal}

@@ -21,8 +21,8 @@ use Rattle.mt_script.specs.declared.command.Command.{Command}
 use Rattle.mt_script.specs.declared.command.Command.TheVariants.{Put, Del, Rescan, Build, End}
 use Rattle.mt_report.specs.declared.outcome.Outcome.{Outcome}
 use Rattle.metro_program.specs.States.{State}
-use Rattle.metro_program.specs.Builds.{Answer, Same, Step, asked_step, build_step, build_with, fresh_build, same_number, with_refusal}
-use Rattle.metro_program.specs.Commands.{answered, changed, changed_by, in_silence, moved, rescanned_by, then_changed, with_change}
+use Rattle.metro_program.specs.Builds.{Same, Step, asked_step, build_step, build_with, fresh_build, same_number, with_refusal}
+use Rattle.metro_program.specs.Commands.{answered, changed, in_silence, moved, rescanned_by, then_changed}
 use Rattle.metro_program.specs.Replay.{History, led, moved_by, then_moved, unbuilt}
 use Rattle.metro_program.specs.Histories.{changes_by, changes_of}
 

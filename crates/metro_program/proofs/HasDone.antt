@@ -1,8 +1,6 @@
 -- How a replay goes on in its script, and how it ends.
-use Rattle.std.proofs.Common.{inl, inr, ◌⊎◌, ◌≡◌, ◌≢◌, ◌+◌, ◌≤◌, ◌++◌, ◌∙◌, ℕ, List, [], ◌∷◌, take, drop, Option, Some, None, Result, Ok, Err, refl, ap, sym, subst, append_assoc, append-nil, arith}
-use Rattle.std.specs.List.{fold}
+use Rattle.std.proofs.Common.{◌≡◌, ◌+◌, ◌≤◌, ◌++◌, ◌∙◌, ℕ, List, [], ◌∷◌, take, drop, Option, Some, None, Result, Ok, Err, refl, ap, sym, subst, append_assoc, append-nil, arith}
 use Rattle.std.specs.Prelude.{OnOk, IfErr}
-use Rattle.std.proofs.lemmas.List.{take-append-drop}
 use Rattle.std.proofs.lemmas.List.Sums.{fold-append}
 use Rattle.mt_io.specs.Causes.{Rose}
 use Rattle.mt_io.specs.Files.{Files}
@@ -31,7 +29,7 @@ use Rattle.metro_program.specs.Commands.{moved}
 use Rattle.metro_program.specs.Lent.{Lent}
 use Rattle.metro_program.specs.Plans.{Plan}
 use Rattle.metro_program.specs.Progress.{Ends, Gave, Halted, HasDone, HasLines, IsBegun, IsOwn, IsStart, IsScriptFault, Keeps, Leads, Start, Went, with_commands}
-use Rattle.metro_program.specs.Replay.{History, ended, files_plan, led, lines_after, lines_of, moved_by, replayed, script_plan, then_moved, unbuilt}
+use Rattle.metro_program.specs.Replay.{History, ended, files_plan, led, lines_after, lines_of, replayed, script_plan, then_moved, unbuilt}
 use Rattle.metro_program.proofs.IsReport.{plan_after, replayed_step}
 use Rattle.metro_program.proofs.LinesOf.{led_after, lines_step}
 use Rattle.metro_program.proofs.Moves.{no_memory, no_read, no_write}

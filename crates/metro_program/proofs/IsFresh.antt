@@ -1,7 +1,7 @@
 -- Wherever the commands of a replay lead, its log is legal and its revisions are traversals.
-use Rattle.std.proofs.Common.{inl, inr, ◌≡◌, ◌≤◌, ◌==◌, ◌∙◌, ℕ, zero, suc, Bool, true, false, List, [], ◌∷◌, ◌++◌, length, take, Option, Some, None, Result, Ok, Err, refl, ap, sym, subst, arith, if◌then◌else◌, append_assoc, append-nil, length-append}
-use Rattle.std.specs.List.{fold, list_all, IsDistinct}
-use Rattle.std.specs.Option.{IfSome, option_and_then, option_map_or}
+use Rattle.std.proofs.Common.{◌≡◌, ◌≤◌, ◌∙◌, ℕ, zero, suc, List, [], ◌∷◌, ◌++◌, length, take, Option, Some, None, Ok, Err, refl, ap, sym, subst, arith, append_assoc, append-nil, length-append}
+use Rattle.std.specs.List.{IsDistinct}
+use Rattle.std.specs.Option.{IfSome, option_map_or}
 use Rattle.std.specs.Str.{bytes_eq}
 use Rattle.std.proofs.lemmas.List.Sums.{fold-append}
 use Rattle.std.proofs.lemmas.List.Elements.{filter_map-append}
@@ -13,10 +13,9 @@ use Rattle.mt_files.specs.Reach.{reach}
 use Rattle.mt_files.specs.Snapshots.{Snapshot}
 use Rattle.mt_files.specs.declared.build_fault.BuildFault.{BuildFault}
 use Rattle.mt_files.specs.declared.change.Change.{Change}
-use Rattle.mt_revision.specs.Contents.{HasContent, revision_after}
-use Rattle.mt_revision.specs.Logs.{Accepted, Denied, IsAccepted, IsDenied, IsLegal, IsLegalAfter, IsNext, Logged, Reached, files_at, numbering_at, reached_after, reached_by, unlogged}
-use Rattle.mt_revision.specs.Numberings.{extended, has_path}
-use Rattle.mt_revision.specs.Revisions.{WasMadeAfter}
+use Rattle.mt_revision.specs.Contents.{HasContent}
+use Rattle.mt_revision.specs.Logs.{Accepted, Denied, IsAccepted, IsLegal, IsLegalAfter, IsNext, Logged, Reached, files_at, numbering_at, reached_after, reached_by, unlogged}
+use Rattle.mt_revision.specs.Numberings.{extended}
 use Rattle.mt_revision.specs.declared.revision.Revision.{Revision}
 use Rattle.mt_revision.proofs.Bundles.{content_bundle}
 use Rattle.mt_revision.proofs.EdgesNamed.{content_graph}
@@ -25,9 +24,8 @@ use Rattle.mt_revision.proofs.Logs.{legal_longer, legal_more, reached_distinct, 
 use Rattle.mt_revision.proofs.Revisions.{after_content, after_made}
 use Rattle.mt_files.proofs.Reach.{reach_ascending}
 use Rattle.mt_script.specs.declared.command.Command.{Command}
-use Rattle.metro_program.specs.declared.state.NextBuild.{NextBuild}
-use Rattle.metro_program.specs.States.{State, opened}
-use Rattle.metro_program.specs.Builds.{Answer, Built, Same, Step, asked_step, build_step, build_with, fresh_build, next_build, number_at, numbering_after, same_number, with_build, with_refusal}
+use Rattle.metro_program.specs.States.{State}
+use Rattle.metro_program.specs.Builds.{Answer, Built, Same, Step, build_step, build_with, fresh_build, next_build, numbering_after, same_number, with_refusal}
 use Rattle.metro_program.specs.Commands.{with_change}
 use Rattle.metro_program.specs.Replay.{History, moved_by, unbuilt}
 use Rattle.metro_program.specs.Histories.{AreTraversals, IsFresh, IsTraversal, KeepsNumbers, last_refusal, log_of, logged, refusal_of}

@@ -1,5 +1,5 @@
 -- What one change and one build keep, commands keep.
-use Rattle.std.proofs.Common.{◌≡◌, ◌∙◌, ℕ, List, [], ◌∷◌, ◌++◌, Option, Result, Ok, Err, refl, ap, sym, subst, append-nil}
+use Rattle.std.proofs.Common.{◌≡◌, List, [], ◌∷◌, ◌++◌, Result, Ok, Err, sym, subst, append-nil}
 use Rattle.std.specs.List.{fold}
 use Rattle.mt_io.specs.Files.{Files}
 use Rattle.mt_files.specs.Crawl.{entry_of}

@@ -1,5 +1,5 @@
 -- A replay ends as its last build did.
-use Rattle.std.proofs.Common.{inl, inr, ◌⊎◌, ◌≡◌, ◌≤◌, ◌==◌, ◌∙◌, ◌++◌, ℕ, Bool, true, false, List, [], ◌∷◌, length, Option, Some, None, Result, Ok, Err, refl, ap, sym, subst, if◌then◌else◌}
+use Rattle.std.proofs.Common.{inl, inr, ◌⊎◌, ◌≡◌, ◌==◌, ◌∙◌, ◌++◌, ℕ, Bool, true, false, List, [], ◌∷◌, length, Option, Some, None, Result, Ok, Err, refl, ap, sym, subst, if◌then◌else◌}
 use Rattle.std.specs.List.{All, fold}
 use Rattle.std.specs.Option.{IfSome, option_and_then, option_map_or}
 use Rattle.std.specs.Result.{result_err}
@@ -8,7 +8,7 @@ use Rattle.std.proofs.lemmas.List.Elements.{All-cons, All-head, All-nil}
 use Rattle.mt_io.specs.Files.{Files}
 use Rattle.mt_files.specs.Asks.{Ask}
 use Rattle.mt_files.specs.Crawl.{entry_of}
-use Rattle.mt_files.specs.Fresh.{EdgeMap, all_faults, decided, edges_of, fresh}
+use Rattle.mt_files.specs.Fresh.{all_faults, decided, edges_of, fresh}
 use Rattle.mt_files.specs.Journals.{push_answer}
 use Rattle.mt_files.specs.Reach.{reach}
 use Rattle.mt_files.specs.Rescans.{rescanned}
@@ -25,7 +25,7 @@ use Rattle.mt_script.specs.declared.command.Command.TheVariants.{Put, Del, Resca
 use Rattle.mt_report.specs.declared.outcome.Outcome.{Outcome}
 use Rattle.mt_report.specs.declared.outcome.Outcome.TheVariants.{Done, Refused}
 use Rattle.metro_program.specs.States.{State}
-use Rattle.metro_program.specs.Builds.{Answer, Same, Step, asked_step, build_step, build_with, fresh_build, number_at, same_number, with_refusal}
+use Rattle.metro_program.specs.Builds.{Same, Step, asked_step, build_step, build_with, fresh_build, number_at, same_number, with_refusal}
 use Rattle.metro_program.specs.Commands.{answered, changed, in_silence, moved, outcome_of, rescanned_by, then_changed}
 use Rattle.metro_program.specs.Replay.{History, led, moved_by, then_moved, unbuilt}
 use Rattle.metro_program.specs.Replays.{IsLastBuild, IsQuiet}

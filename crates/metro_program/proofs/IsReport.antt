@@ -1,7 +1,6 @@
 -- What a replay writes are the lines of what its builds answered, up to the command at which it ended.
-use Rattle.std.proofs.Common.{◌≡◌, ◌+◌, ◌++◌, ◌∙◌, ℕ, zero, suc, List, [], ◌∷◌, length, Option, Some, None, Result, Ok, Err, refl, ap, sym, subst}
+use Rattle.std.proofs.Common.{◌≡◌, ◌+◌, ◌++◌, ◌∙◌, ℕ, zero, suc, List, [], ◌∷◌, length, Option, Some, Result, Ok, Err, refl, ap, sym, subst}
 use Rattle.std.specs.List.{All, fold}
-use Rattle.std.specs.Option.{option_map_or}
 use Rattle.mt_io.specs.Files.{Files}
 use Rattle.mt_files.specs.Asks.{Ask}
 use Rattle.mt_files.specs.Snapshots.{Snapshot}
@@ -14,7 +13,7 @@ use Rattle.mt_script.specs.declared.command.Command.TheVariants.{Put, Del, Resca
 use Rattle.mt_script.specs.declared.fault.ScriptFault.{ScriptFault}
 use Rattle.mt_report.specs.declared.outcome.Outcome.{Outcome}
 use Rattle.metro_program.specs.Builds.{Step}
-use Rattle.metro_program.specs.Commands.{moved, outcome_of}
+use Rattle.metro_program.specs.Commands.{moved}
 use Rattle.metro_program.specs.Plans.{Plan}
 use Rattle.metro_program.specs.Replay.{History, ended, led, lines_of, moved_by, replayed, script_plan, then_moved, unbuilt}
 use Rattle.metro_program.specs.Replays.{EndsAt, IsReport}

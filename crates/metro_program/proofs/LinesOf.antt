@@ -1,5 +1,5 @@
 -- The lines of a replay are those of its steps, one after another.
-use Rattle.std.proofs.Common.{◌≡◌, ◌∙◌, ◌++◌, ℕ, List, [], ◌∷◌, Option, Some, None, Result, Ok, Err, refl, ap, sym, subst, append_assoc, append-nil}
+use Rattle.std.proofs.Common.{◌≡◌, ◌∙◌, ◌++◌, ℕ, List, [], ◌∷◌, Option, Some, None, Ok, refl, ap, sym, append_assoc}
 use Rattle.std.specs.List.{fold}
 use Rattle.std.specs.Option.{option_map_or}
 use Rattle.std.proofs.lemmas.List.Sums.{fold-append}
@@ -10,9 +10,8 @@ use Rattle.mt_revision.specs.declared.revision.Revision.{Revision}
 use Rattle.mt_script.specs.declared.command.Command.{Command}
 use Rattle.metro_program.specs.States.{State}
 use Rattle.metro_program.specs.Builds.{Answer, Same, Step, asked_step, build_step, build_with, fresh_build, same_number, with_refusal}
-use Rattle.metro_program.specs.Commands.{moved}
-use Rattle.metro_program.specs.Replay.{History, latest_after, led, line_after, lines_after, lines_of, moved_by}
-use Rattle.metro_program.proofs.IsKept.{Holds, IsKept, command_holds, holds_after}
+use Rattle.metro_program.specs.Replay.{History, latest_after, line_after, lines_after, lines_of, moved_by}
+use Rattle.metro_program.proofs.IsKept.{IsKept, holds_after}
 
 -- the latest revision after some answers
 abbrev latest_by : Option Revision → List Answer → Option Revision

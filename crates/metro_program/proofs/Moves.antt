@@ -1,8 +1,8 @@
 -- What a call that led on, or ended a run, says of the command that it carried out.
-use Rattle.std.proofs.Common.{inl, inr, ◌⊎◌, ◌≡◌, ◌<◌, ℕ, List, [], ◌∷◌, Option, Result, Ok, Err, refl, ap, sym, subst, arith}
+use Rattle.std.proofs.Common.{inl, inr, ◌⊎◌, ◌≡◌, ℕ, List, [], ◌∷◌, Result, Ok, Err, refl, ap, sym, subst, arith}
 use Rattle.std.specs.List.{fold}
 use Rattle.std.specs.Prelude.{IfErr, OnOk}
-use Rattle.mt_io.specs.Seen.{Seen, Wrote}
+use Rattle.mt_io.specs.Seen.{Seen}
 use Rattle.mt_io.proofs.Seen.{stopped_none, wrote_none}
 use Rattle.mt_files.specs.declared.change.Change.{Change}
 use Rattle.mt_report.specs.Outcomes.{IsPlanned}

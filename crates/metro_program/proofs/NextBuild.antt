@@ -1,5 +1,5 @@
 -- The next build is that of the fresh graph.
-use Rattle.std.proofs.Common.{inl, inr, ◌⊎◌, ◌≡◌, ◌≤◌, ◌<◌, ◌+◌, ◌∙◌, ℕ, true, List, [], ◌∷◌, length, Option, None, Result, Ok, Err, refl, ap, sym, subst, arith}
+use Rattle.std.proofs.Common.{inl, inr, ◌⊎◌, ◌≡◌, ◌≤◌, ◌<◌, ◌+◌, ◌∙◌, ℕ, true, List, [], ◌∷◌, length, Option, Result, Ok, Err, refl, ap, sym, subst, arith}
 use Rattle.std.specs.List.{list_all}
 use Rattle.std.specs.FinMap.{keys, len}
 use Rattle.mt_files.specs.Fresh.{all_faults, decided}

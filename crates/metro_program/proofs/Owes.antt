@@ -1,17 +1,15 @@
 -- What a run owes, by what its parts did.
-use Rattle.std.proofs.Common.{inl, inr, ◌⊎◌, ◌≡◌, ◌≢◌, ◌≤◌, ◌<◌, ◌∙◌, ◌++◌, ℕ, Bool, true, false, List, [], ◌∷◌, Option, Some, None, Result, Ok, Err, refl, ap, sym, subst, arith, append-nil}
-use Rattle.std.specs.Prelude.{IsErr, IsErrOf, IfErr, OnOk}
+use Rattle.std.proofs.Common.{inl, inr, ◌⊎◌, ◌≡◌, ◌≤◌, ◌∙◌, ℕ, Bool, true, false, List, [], ◌∷◌, Option, Some, None, Result, Ok, Err, refl, ap, sym, subst, arith}
+use Rattle.std.specs.Prelude.{IsErrOf}
 use Rattle.std.specs.Option.{option_map}
-use Rattle.std.proofs.lemmas.Bool.{false≢true}
 use Rattle.mt_io.specs.Causes.{Rose}
 use Rattle.mt_io.specs.Files.{Files}
-use Rattle.mt_io.specs.Seen.{Looks, Seen, Stopped as Began, Tells, Wrote}
+use Rattle.mt_io.specs.Seen.{Looks, Seen, Tells, Wrote}
 use Rattle.mt_io.specs.Told.{Reading}
-use Rattle.mt_io.proofs.Seen.{stopped_all, stopped_none, wrote_none}
+use Rattle.mt_io.proofs.Seen.{stopped_none, wrote_none}
 use Rattle.mt_files.specs.Asks.{Ask}
 use Rattle.mt_files.specs.Crawl.{crawled}
 use Rattle.mt_files.specs.Snapshots.{Snapshot}
-use Rattle.mt_files.specs.declared.build_fault.BuildFault.{BuildFault}
 use Rattle.mt_files.specs.declared.fault.CrawlFault.{CrawlFault}
 use Rattle.mt_files.specs.declared.fault.CrawlFault.TheVariants as crawl
 use Rattle.mt_script.specs.Scripts.{script_of}
@@ -19,14 +17,13 @@ use Rattle.mt_script.specs.declared.command.Command.TheVariants.{Build}
 use Rattle.mt_report.specs.Outcomes.{IsBadWord, IsPlanned, crawl_outcome, line_of, status_of}
 use Rattle.mt_report.specs.declared.outcome.Outcome.{Outcome}
 use Rattle.mt_report.specs.declared.outcome.Outcome.TheVariants as outcome
-use Rattle.metro_program.specs.declared.words.Action.{Action}
 use Rattle.metro_program.specs.declared.words.Action.TheVariants.{Bundle, Replay}
 use Rattle.metro_program.specs.declared.words.Request.{Request}
 use Rattle.metro_program.specs.declared.words.WordFault.{WordFault}
 use Rattle.metro_program.specs.declared.words.WordFault.TheVariants as word
 use Rattle.metro_program.specs.Bundle.{bundle_plan, snapshot_plan}
 use Rattle.metro_program.specs.Lent.{Lent, Stood}
-use Rattle.metro_program.specs.Owes.{Comes, ComesTo, Given, HasScript, Owes, Runs, Worked}
+use Rattle.metro_program.specs.Owes.{Comes, ComesTo, Given, Owes, Runs, Worked}
 use Rattle.metro_program.specs.Plans.{Plan, without_bytes}
 use Rattle.metro_program.specs.Progress.{Ends, Gave, HasLines, IsOwn, IsStart, Keeps, ReadsScript, Start}
 use Rattle.metro_program.specs.Replay.{files_plan, replay_plan, unbuilt}

@@ -1,19 +1,18 @@
 -- How the plan of a replay goes on, command by command.
-use Rattle.std.proofs.Common.{◌≡◌, ◌+◌, ◌++◌, ◌∙◌, ℕ, List, [], ◌∷◌, Option, Some, None, Result, Ok, Err, refl, ap, sym, subst, append_assoc, append-nil}
+use Rattle.std.proofs.Common.{◌≡◌, ◌+◌, ◌++◌, ◌∙◌, ℕ, List, [], ◌∷◌, Option, Result, Ok, Err, refl, ap, sym, append_assoc, append-nil}
 use Rattle.std.specs.List.{fold}
 use Rattle.mt_io.specs.Files.{Files}
 use Rattle.mt_script.specs.Commands.{GoesOn}
-use Rattle.mt_script.specs.Scripts.{Script, script_from, with_command}
-use Rattle.mt_script.specs.Steps.{Found, Stopped, next_of}
+use Rattle.mt_script.specs.Scripts.{script_from}
+use Rattle.mt_script.specs.Steps.{Found, next_of}
 use Rattle.mt_script.specs.declared.command.Command.{Command}
 use Rattle.mt_script.specs.declared.command.Command.TheVariants.{Put, Del, Rescan, Build, End}
 use Rattle.mt_script.specs.declared.fault.ScriptFault.{ScriptFault}
-use Rattle.mt_script.proofs.Scripts.{script_found, script_ended, script_stopped}
+use Rattle.mt_script.proofs.Scripts.{script_found, script_ended}
 use Rattle.mt_report.specs.declared.outcome.Outcome.{Outcome}
 use Rattle.metro_program.specs.Builds.{Answer, Step, asked_step}
 use Rattle.metro_program.specs.Commands.{moved}
-use Rattle.metro_program.specs.Plans.{Plan}
-use Rattle.metro_program.specs.Replay.{History, ended, led, lines_after, lines_of, moved_by, replayed, script_plan, then_moved}
+use Rattle.metro_program.specs.Replay.{History, led, lines_of, moved_by, replayed, script_plan, then_moved}
 use Rattle.metro_program.proofs.ChangesBy.{ended_moves}
 use Rattle.metro_program.proofs.IsKept.{IsKept, holds_after}
 use Rattle.metro_program.proofs.IsReport.{plan_after, replayed_step, reported}

@@ -9,7 +9,7 @@ use Rattle.mt_io.specs.Files.{Files}
 use Rattle.mt_files.specs.Asks.{Ask}
 use Rattle.mt_files.specs.Crawl.{crawled, entry_of}
 use Rattle.mt_files.specs.Fresh.{all_faults}
-use Rattle.mt_files.specs.Journals.{full, is_full, max_changes, push_answer}
+use Rattle.mt_files.specs.Journals.{full, is_full, max_changes}
 use Rattle.mt_files.specs.Limits.{MeetsLimit}
 use Rattle.mt_files.specs.Rescans.{changes_between, changes_to, rescanned}
 use Rattle.mt_files.specs.Snapshots.{Snapshot}
@@ -18,7 +18,6 @@ use Rattle.mt_files.specs.declared.change.Change.{Change}
 use Rattle.mt_files.specs.declared.change.Change.TheVariants as change
 use Rattle.mt_files.specs.declared.fault.CrawlFault.{CrawlFault}
 use Rattle.mt_files.specs.declared.fault.CrawlFault.TheVariants as crawl
-use Rattle.mt_files.specs.declared.journal.JournalFault.{JournalFault}
 use Rattle.mt_files.proofs.Limits.{limits_first}
 use Rattle.mt_revision.specs.declared.revision.Revision.{Revision}
 use Rattle.mt_script.specs.Commands.{GoesOn}
@@ -29,10 +28,10 @@ use Rattle.mt_script.specs.declared.fault.ScriptFault.{ScriptFault}
 use Rattle.mt_script.specs.declared.fault.ScriptFault.TheVariants as script
 use Rattle.mt_report.specs.Outcomes.{crawl_outcome, script_outcome, status_of}
 use Rattle.mt_report.specs.declared.outcome.Outcome.{Outcome}
-use Rattle.mt_report.specs.declared.outcome.Outcome.TheVariants.{Done, Limit, Refused}
+use Rattle.mt_report.specs.declared.outcome.Outcome.TheVariants.{Limit}
 use Rattle.mt_report.specs.declared.outcome.Limit.TheVariants.{Changes, JournalBytes}
 use Rattle.metro_program.specs.States.{AreEntries, State}
-use Rattle.metro_program.specs.Builds.{Answer, Built, Same, Step, asked_step, build_step, build_with, fresh_build, number_at, same_number, with_refusal}
+use Rattle.metro_program.specs.Builds.{Same, Step, asked_step, build_step, build_with, fresh_build, number_at, same_number, with_refusal}
 use Rattle.metro_program.specs.Commands.{answered, changed, in_silence, moved, outcome_of, rescanned_by, then_changed}
 use Rattle.metro_program.specs.Plans.{Plan, without_bytes}
 use Rattle.metro_program.specs.Replay.{History, files_plan, moved_by, replay_plan, script_plan, unbuilt}

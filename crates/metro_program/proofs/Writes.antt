@@ -1,5 +1,5 @@
 -- What a call that writes left as it was.
-use Rattle.std.proofs.Common.{◌≡◌, ◌≤◌, ◌∙◌, ℕ, List, Result, Ok, Err, refl, arith}
+use Rattle.std.proofs.Common.{◌≡◌, ◌∙◌, ℕ, List, Result, Ok, Err, refl, arith}
 use Rattle.mt_io.specs.Seen.{Looks, Seen, Writes, WritesOrLacks}
 use Rattle.mt_io.specs.declared.trouble.Trouble.{Trouble}
 use Rattle.mt_io.proofs.Seen.{stopped_apart, wrote_apart}

@@ -1,8 +1,7 @@
 -- What holds wherever the commands of a replay lead.
 use Rattle.std.specs.Prelude.{◌≡◌, ◌≤◌, ℕ, List, [], ◌∷◌, ◌++◌, length, Option, Some, None, Ok}
 use Rattle.std.specs.List.{filter_map, fold}
-use Rattle.std.specs.Option.{option_and_then}
-use Rattle.std.specs.Result.{result_err, result_ok}
+use Rattle.std.specs.Result.{result_ok}
 use Rattle.std.specs.Option.{unwrap_or}
 use Rattle.mt_io.specs.Files.{Files}
 use Rattle.mt_files.specs.Asks.{Ask}
@@ -15,7 +14,7 @@ use Rattle.mt_files.specs.declared.build_fault.BuildFault.{BuildFault}
 use Rattle.mt_files.specs.declared.change.Change.{Change}
 use Rattle.mt_files.specs.declared.change.Change.TheVariants as change
 use Rattle.mt_revision.specs.Contents.{bundle_at, edges_named, modules_at}
-use Rattle.mt_revision.specs.Logs.{Accepted, Denied, IsLegal, Logged, Reached, files_at, numbering_at, reached_by, unlogged}
+use Rattle.mt_revision.specs.Logs.{Accepted, Denied, IsLegal, Logged, files_at, numbering_at, reached_by, unlogged}
 use Rattle.mt_revision.specs.Revisions.{bundle_of}
 use Rattle.mt_revision.specs.declared.revision.Revision.{Revision}
 use Rattle.mt_script.specs.declared.command.Command.{Command}

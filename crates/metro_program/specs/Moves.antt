@@ -1,5 +1,5 @@
 -- What calls on a state did.
-use Rattle.std.specs.Prelude.{◌≡◌, ◌⊎◌, ℕ, Result, Ok, Err}
+use Rattle.std.specs.Prelude.{◌≡◌, ◌⊎◌, Result, Ok, Err}
 use Rattle.mt_report.specs.Outcomes.{status_of}
 use Rattle.mt_report.specs.declared.outcome.Outcome.{Outcome}
 use Rattle.metro_program.specs.States.{State}

@@ -1,5 +1,5 @@
 -- What a run owes to those who lend it the outside.
-use Rattle.std.specs.Prelude.{◌≡◌, ◌⊎◌, ℕ, Bool, true, List, Option, Some, Result, Ok, Err, IsErr}
+use Rattle.std.specs.Prelude.{◌≡◌, ◌⊎◌, ℕ, Bool, true, List, Some, Result, Ok, Err, IsErr}
 use Rattle.std.specs.Option.{option_map}
 use Rattle.mt_files.specs.Asks.{Ask}
 use Rattle.mt_io.specs.Causes.{Rose}

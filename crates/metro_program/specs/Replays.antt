@@ -1,5 +1,5 @@
 -- What the plan of a replay says: which commands were done, and why it ended.
-use Rattle.std.specs.Prelude.{◌≡◌, ◌<◌, ◌⊎◌, ◌↔◌, ℕ, List, [], ◌∷◌, ◌++◌, length, Option, Some, None, Result, Ok, Err}
+use Rattle.std.specs.Prelude.{◌≡◌, ◌<◌, ◌⊎◌, ◌↔◌, ℕ, List, [], ◌∷◌, ◌++◌, length, Option, Some, None, Ok, Err}
 use Rattle.std.specs.List.{All}
 use Rattle.std.specs.Option.{option_map_or}
 use Rattle.std.specs.Result.{result_err}
@@ -10,9 +10,9 @@ use Rattle.mt_files.specs.Fresh.{fresh}
 use Rattle.mt_files.specs.Snapshots.{Snapshot}
 use Rattle.mt_files.specs.declared.fault.CrawlFault.{CrawlFault}
 use Rattle.mt_revision.specs.declared.revision.Revision.{Revision}
-use Rattle.mt_script.specs.Scripts.{Script, script_of}
+use Rattle.mt_script.specs.Scripts.{Script}
 use Rattle.mt_script.specs.declared.command.Command.{Command}
-use Rattle.mt_script.specs.declared.command.Command.TheVariants.{Put, Del, Rescan, Build, End}
+use Rattle.mt_script.specs.declared.command.Command.TheVariants.{Build}
 use Rattle.mt_script.specs.declared.fault.ScriptFault.{ScriptFault}
 use Rattle.mt_report.specs.Outcomes.{crawl_outcome, script_outcome, status_of}
 use Rattle.mt_report.specs.declared.outcome.Outcome.{Outcome}
@@ -22,7 +22,7 @@ use Rattle.metro_program.specs.Builds.{Same, asked_step}
 use Rattle.metro_program.specs.Commands.{moved, outcome_of}
 use Rattle.metro_program.specs.Plans.{Plan, without_bytes}
 use Rattle.metro_program.specs.Replay.{History, lines_of, moved_by, unbuilt}
-use Rattle.metro_program.specs.Histories.{AreTraversals, IsFresh, KeepsNumbers, changes_by, last_refusal}
+use Rattle.metro_program.specs.Histories.{AreTraversals, IsFresh, KeepsNumbers, changes_by}
 
 -- ---- which commands were done
 

@@ -9,8 +9,6 @@ mod real;
 mod replay;
 mod state;
 mod still;
-#[cfg(test)]
-mod tests;
 mod words;
 
 use mt_io::{FreeGate, send_all};

@@ -1,5 +1,2 @@
-pub mod Gathered
-pub mod Groups
 pub mod Numbers
-pub mod Seen
 pub mod Uses

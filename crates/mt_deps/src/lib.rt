@@ -1,23 +1,14 @@
-//! What a text requires, imports and exports, and what a bundle has in place of parts of it.
+//! What a source depends on: the names that its text requires, and what a bundle has in their place.
 #![tactic(auto)]
 
-mod calls;
 mod dep_list;
-mod exports;
-mod gathering;
-mod imports;
 mod law;
-mod lists;
-mod marks;
-mod numbers;
 mod reading;
-mod replacing;
-mod shields;
-mod sites;
-mod spans;
-mod uses;
+mod require_calls;
+mod words;
 
 pub use dep_list::DepList;
 pub use law::law_of_uses;
-pub use mt_tokens::{Dep, DepFault, DepKind, Mark, Use, part};
+pub use mt_tokens::{Dep, DepFault, DepKind, Mark, Use};
 pub use reading::deps;
+pub use words::part;

@@ -1,32 +1,19 @@
 -- Sums over the lists of a graph once some are set.
 use Rattle.std.proofs.Common.{ℕ, ◌+◌, ◌<◌, ◌≤◌, ◌≡◌, Bool, true, false, cond, List, [], ◌∷◌, length, Option, Some, None, ap, sym, subst, refl, ◌∙◌, arith}
-use Rattle.std.specs.Prelude.{T, ◌&&◌, ◌||◌}
-use Rattle.std.specs.declared.cmp.Ordering.{Ordering}
+use Rattle.std.specs.Prelude.{T, ◌||◌}
 use Rattle.std.specs.declared.cmp.Ordering.TheVariants.{Less, Equal, Greater}
-use Rattle.std.specs.Ordering.{nat_cmp, is_lt, is_eq, eq_by_cmp}
+use Rattle.std.specs.Ordering.{nat_cmp, is_eq, eq_by_cmp}
 use Rattle.std.specs.Cmp.{nat_cmp_total, nat_cmp_is, ranked}
 use Rattle.std.specs.List.{sum_by, list_any, AllByRecursion}
 use Rattle.std.specs.List.Sorted.{IsStrictlySortedBy}
 use Rattle.std.specs.FinMap.{get, insert, entries, entries_sorted, entries-insert, get-entries, get-insert, find, put}
 use Rattle.std.specs.FinMap.Entries.{below_all, is_sorted, by_order}
 use Rattle.std.proofs.lemmas.List.Sums.{sum_by-cons}
+use Rattle.mt_containers.proofs.Tables.{first_true, second_true, less_is}
 use Rattle.mt_refs.specs.Lists.{targets_in}
 use Rattle.mt_refs.specs.Graphs.{Edges, edge_total, sum_lists}
 use Rattle.mt_refs.specs.Patches.{removed, filled, nodes_of, size_of, sum_now, sum_then}
 use Rattle.mt_refs.proofs.Fills.{get_removed, emptied_first}
-
-left : (a b : Bool) → T (a && b) → T a
-left true b h = tt
-left false b h = absurd h
-
-right : (a b : Bool) → T (a && b) → T b
-right true b h = h
-right false b h = absurd h
-
-less : (o : Ordering) → T (is_lt o) → o ≡ Less
-less Less h = refl
-less Equal h = absurd h
-less Greater h = absurd h
 
 apart : (q k : ℕ) → q < k → eq_by_cmp nat_cmp q k ≡ false
 apart q k h = ap is_eq (sym (nat_cmp_is q k Less h))
@@ -43,18 +30,18 @@ no_list false x e = e
 find_below : (k x : ℕ) (es : List (ℕ × List ℕ)) → k < x → T (below_all nat_cmp x es) → find nat_cmp k es ≡ None
 find_below k x [] h b = refl
 find_below k x (e ∷ es) h b =
-    let above : x < e.0 = ranked x e.0 Less (sym (less (nat_cmp x e.0) (left _ _ b))) in
-    ap (λ t. cond t (Some e.1) (find nat_cmp k es)) (apart k e.0 (omega arith)) ∙ find_below k x es h (right _ _ b)
+    let above : x < e.0 = ranked x e.0 Less (sym (less_is (nat_cmp x e.0) (first_true _ _ b))) in
+    ap (λ t. cond t (Some e.1) (find nat_cmp k es)) (apart k e.0 (omega arith)) ∙ find_below k x es h (second_true _ _ b)
 
 module _ (f : List ℕ → ℕ) (z : f [] ≡ 0) where
   put_sum : (k : ℕ) (v : List ℕ) (es : List (ℕ × List ℕ)) → T (is_sorted nat_cmp es) → sum_by (λ (e : ℕ × List ℕ). f e.1) (put nat_cmp k v es) + f (targets_in (find nat_cmp k es)) ≡ sum_by (λ (e : ℕ × List ℕ). f e.1) es + f v
   put_sum k v [] h = let one = sum_by-cons (λ (e : ℕ × List ℕ). f e.1) (k, v) [] in omega arith
   put_sum k v (e ∷ es) h =
-      let ih = put_sum k v es (right _ _ h) in
+      let ih = put_sum k v es (second_true _ _ h) in
       let whole = sum_by-cons (λ (e : ℕ × List ℕ). f e.1) e es in
       elim (nat_cmp k e.0) as (λ r. nat_cmp k e.0 ≡ r → sum_by (λ (e : ℕ × List ℕ). f e.1) (by_order r ((k, v) ∷ e ∷ es) ((e.0, v) ∷ es) (e ∷ put nat_cmp k v es)) + f (targets_in (cond (is_eq r) (Some e.1) (find nat_cmp k es))) ≡ sum_by (λ (e : ℕ × List ℕ). f e.1) (e ∷ es) + f v) [
         | Less ↦ λ p.
-            let none : f (targets_in (find nat_cmp k es)) ≡ 0 = ap (λ o. f (targets_in o)) (find_below k e.0 es (ranked k e.0 Less (sym p)) (left _ _ h)) ∙ z in
+            let none : f (targets_in (find nat_cmp k es)) ≡ 0 = ap (λ o. f (targets_in o)) (find_below k e.0 es (ranked k e.0 Less (sym p)) (first_true _ _ h)) ∙ z in
             let more = sum_by-cons (λ (e : ℕ × List ℕ). f e.1) (k, v) (e ∷ es) in
             omega arith
         | Equal ↦ λ p. let more = sum_by-cons (λ (e : ℕ × List ℕ). f e.1) (e.0, v) es in omega arith

@@ -1,11 +1,11 @@
 -- What a source becomes, by its kind and its encoding.
-use Rattle.std.proofs.Common.{◌≡◌, ℕ, List, Bool, true, false, cond, Some, None, Ok, Err, refl, ap}
+use Rattle.std.proofs.Common.{◌≡◌, ℕ, List, Bool, true, false, cond, Some, None, Err, refl, ap}
 use Rattle.std.specs.Option.{option_map_or}
 use Rattle.std.specs.Str.{is_utf8, IsUtf8}
 use Rattle.std.specs.Str.Lossy.{utf8_valid_len}
 use Rattle.std.proofs.lemmas.Str.{IsUtf8-from_is_utf8}
 use Rattle.mt_tokens.specs.Tokens.{tokens_of}
-use Rattle.mt_tokens.specs.Transform.{is_json, json_of, read_script, transformed}
+use Rattle.mt_tokens.specs.Transform.{transformed, read_script}
 use Rattle.mt_tokens.specs.declared.source.SourceFault.TheVariants as fault
 use Rattle.mt_tokens.specs.declared.source.PathKind.{PathKind}
 use Rattle.mt_tokens.specs.declared.source.PathKind.TheVariants.{Script, Json}
@@ -22,7 +22,7 @@ pub transformed-script : (strip : Bool) (kind : PathKind) (source : List ℕ) �
 unfolding transformed
 transformed-script strip kind source k u = rw (k, u) refl
 
-pub transformed-json : (strip : Bool) (kind : PathKind) (source : List ℕ) → kind ≡ Json → is_utf8 source ≡ true → transformed strip kind source ≡ cond (is_json source) (Ok (json_of source)) (Err fault.Json)
+pub transformed-json : (strip : Bool) (kind : PathKind) (source : List ℕ) → kind ≡ Json → is_utf8 source ≡ true → transformed strip kind source ≡ Err (fault.NotYet 0)
 unfolding transformed
 transformed-json strip kind source k u = rw (k, u) refl
 

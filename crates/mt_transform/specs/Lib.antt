@@ -1,4 +1,3 @@
-pub mod Drafts
 pub mod OutputValues
 pub mod Outputs
 pub mod Readings

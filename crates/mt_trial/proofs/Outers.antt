@@ -1,11 +1,10 @@
 -- Edges from some nodes, and edges from the others.
 use Rattle.std.proofs.Common.{ℕ, ◌+◌, ◌<◌, ◌≡◌, Bool, true, false, cond, nat_eq, List, [], ◌∷◌, Option, Some, None, is_some, inl, inr, ⊎_elim, eq-eqb, ap, sym, subst, refl, ◌∙◌, arith}
-use Rattle.std.specs.Prelude.{T, ◌&&◌}
+use Rattle.std.specs.Prelude.{T}
 use Rattle.std.specs.List.{Contains, sum_by}
 use Rattle.std.specs.List.Sorted.{IsStrictlySortedBy}
-use Rattle.std.specs.declared.cmp.Ordering.{Ordering}
-use Rattle.std.specs.declared.cmp.Ordering.TheVariants.{Less, Equal, Greater}
-use Rattle.std.specs.Ordering.{nat_cmp, eq_by_cmp, is_lt}
+use Rattle.std.specs.declared.cmp.Ordering.TheVariants.{Less}
+use Rattle.std.specs.Ordering.{nat_cmp, eq_by_cmp}
 use Rattle.std.specs.Cmp.{nat_cmp_total, ranked}
 use Rattle.std.specs.Option.{option_or}
 use Rattle.std.specs.FinMap.{entries, entries_sorted, find, get, get-entries, nat_cmp-IsAntisymmetric}
@@ -13,6 +12,7 @@ use Rattle.std.specs.FinMap.Entries.{below_all, is_sorted}
 use Rattle.std.proofs.lemmas.Bool.{cases_lt, eqb-true, false≢true}
 use Rattle.std.proofs.lemmas.List.Sums.{sum_by-cons}
 use Rattle.mt_containers.proofs.Members.{contains_cases, contains_head, contains_none, contains_tail, tie_decides}
+use Rattle.mt_containers.proofs.Tables.{first_true, second_true, less_is}
 use Rattle.mt_refs.specs.Lists.{times, targets_in}
 use Rattle.mt_refs.specs.Graphs.{Edges, Graph, edges_from, sum_lists}
 use Rattle.mt_refs.specs.Patches.{filled, nodes_of, sum_now, sum_then}
@@ -56,31 +56,18 @@ module _ (f : List ℕ → ℕ) (z : f [] ≡ 0) where
 
 -- ---- a look-up in an ascending list of entries
 
-left : (a b : Bool) → T (a && b) → T a
-left true b h = tt
-left false b h = absurd h
-
-right : (a b : Bool) → T (a && b) → T b
-right true b h = h
-right false b h = absurd h
-
-less : (o : Ordering) → T (is_lt o) → o ≡ Less
-less Less h = refl
-less Equal h = absurd h
-less Greater h = absurd h
-
 below_all_contains : (x : ℕ) (es : List (ℕ × List ℕ)) (e : ℕ × List ℕ) → T (below_all nat_cmp x es) → Contains es e → x < e.0
 below_all_contains x [] e h w = absurd (contains_none e w)
 below_all_contains x (y ∷ es) e h w = elim (contains_cases y e es w) [
-  | inl is ↦ subst (λ (z : ℕ × List ℕ). x < z.0) is (ranked x y.0 Less (sym (less (nat_cmp x y.0) (left _ _ h))))
-  | inr more ↦ below_all_contains x es e (right _ _ h) more
+  | inl is ↦ subst (λ (z : ℕ × List ℕ). x < z.0) is (ranked x y.0 Less (sym (less_is (nat_cmp x y.0) (first_true _ _ h))))
+  | inr more ↦ below_all_contains x es e (second_true _ _ h) more
 ]
 
 find_contained : (es : List (ℕ × List ℕ)) (e : ℕ × List ℕ) → T (is_sorted nat_cmp es) → Contains es e → find nat_cmp e.0 es ≡ Some e.1
 find_contained [] e h w = absurd (contains_none e w)
 find_contained (y ∷ es) e h w = elim (contains_cases y e es w) [
   | inl is ↦ subst (λ (z : ℕ × List ℕ). find nat_cmp z.0 (y ∷ es) ≡ Some z.1) is (ap (λ b. cond b (Some y.1) (find nat_cmp y.0 es)) (ties y.0 y.0 refl))
-  | inr more ↦ ap (λ b. cond b (Some y.1) (find nat_cmp e.0 es)) (above_apart e.0 y.0 (below_all_contains y.0 es e (left _ _ h) more)) ∙ find_contained es e (right _ _ h) more
+  | inr more ↦ ap (λ b. cond b (Some y.1) (find nat_cmp e.0 es)) (above_apart e.0 y.0 (below_all_contains y.0 es e (first_true _ _ h) more)) ∙ find_contained es e (second_true _ _ h) more
 ]
 
 get_contained : (edges : Edges) (e : ℕ × List ℕ) → Contains (entries edges) e → get edges e.0 ≡ Some e.1

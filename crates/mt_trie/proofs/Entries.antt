@@ -1,15 +1,15 @@
 -- The entries of a finite map from a key on.
-use Rattle.std.proofs.Common.{◌≡◌, ◌∙◌, ℕ, ◌+◌, ◌<◌, ◌≤◌, Bool, true, false, ◌&&◌, T, cond, nat_eq, nat_le, List, [], ◌∷◌, filter, Option, Some, None, Ok, Err, refl, ap, sym, subst, arith}
+use Rattle.std.proofs.Common.{◌≡◌, ◌∙◌, ℕ, ◌+◌, ◌<◌, ◌≤◌, Bool, true, false, T, cond, nat_eq, nat_le, List, [], ◌∷◌, filter, Option, Some, None, Ok, Err, refl, ap, sym, subst, arith}
 use Rattle.std.proofs.Common.{Result}
 use Rattle.std.specs.Result.{IfOk, MatchResult}
 use Rattle.std.specs.Ordering.{nat_cmp, eq_by_cmp, is_lt}
-use Rattle.std.specs.declared.cmp.Ordering.{Ordering}
-use Rattle.std.specs.declared.cmp.Ordering.TheVariants.{Less, Equal, Greater}
+use Rattle.std.specs.declared.cmp.Ordering.TheVariants.{Less}
 use Rattle.std.specs.Cmp.{nat_cmp_total, ranked, unsigned_tied}
 use Rattle.std.specs.FinMap.{FinMap, find, get, get-entries, entries, entries_sorted, remove, get-remove, same_map, nat_cmp-IsAntisymmetric}
 use Rattle.std.specs.FinMap.Entries.{below_all, is_sorted}
 use Rattle.std.specs.Option.{unwrap_or}
 use Rattle.std.proofs.lemmas.Bool.Decides.{nat_tests}
+use Rattle.mt_containers.proofs.Tables.{first_true, second_true, less_is}
 use Rattle.mt_trie.specs.Tries.{entries_from}
 
 pub ok_of_cases : {X E : Type 0} (P : X → Type 0) (Q : E → Type 0) (R : X → Type 0) (r : Result X E) → MatchResult r P Q → ((x : X) → P x → R x) → IfOk r R
@@ -26,24 +26,11 @@ tied q false e = absurd (grind (arith, nat_tests))
 same_key : (a b : ℕ) → eq_by_cmp nat_cmp a b ≡ true → a ≡ b
 same_key a b e = let t : nat_eq a b ≡ true = sym (unsigned_tied a b) ∙ e in grind (arith, nat_tests)
 
-first_and : (a b : Bool) → T (a && b) → T a
-first_and true b h = tt
-first_and false b h = h
-
-second_and : (a b : Bool) → T (a && b) → T b
-second_and true b h = h
-second_and false b h = absurd h
-
-less_order : (o : Ordering) → T (is_lt o) → o ≡ Less
-less_order Less h = refl
-less_order Equal h = absurd h
-less_order Greater h = absurd h
-
 nat_less : (a b : ℕ) → nat_cmp a b ≡ Less → a < b
 nat_less a b e = ranked a b Less (sym e)
 
-less_is : (a b : ℕ) → T (is_lt (nat_cmp a b)) → a < b
-less_is a b h = nat_less a b (less_order (nat_cmp a b) h)
+nat_less_is : (a b : ℕ) → T (is_lt (nat_cmp a b)) → a < b
+nat_less_is a b h = nat_less a b (less_is (nat_cmp a b) h)
 
 module _ {V : Type 0} where
   abbrev from : ℕ → List (ℕ × V) → List (ℕ × V)
@@ -94,8 +81,8 @@ module _ {V : Type 0} where
   above : (key : ℕ) (es : List (ℕ × V)) → T (below_all nat_cmp key es) → from key es ≡ from (key + 1) es
   above key [] h = refl
   above key (e ∷ es) h = gap_by key (key + 1) e.0 e.1 (from key es) (from (key + 1) es) (nat_le key e.0) (nat_le (key + 1) e.0) refl refl (omega arith)
-      (λ a b. absurd (omega (arith, less_is key e.0 (first_and (is_lt (nat_cmp key e.0)) (below_all nat_cmp key es) h))))
-      (above key es (second_and (is_lt (nat_cmp key e.0)) (below_all nat_cmp key es) h))
+      (λ a b. absurd (omega (arith, nat_less_is key e.0 (first_true (is_lt (nat_cmp key e.0)) (below_all nat_cmp key es) h))))
+      (above key es (second_true (is_lt (nat_cmp key e.0)) (below_all nat_cmp key es) h))
 
   found_by : (b : Bool) (key k below : ℕ) (v w : V) (o : Option V) → eq_by_cmp nat_cmp key k ≡ b → below < k → (o ≡ Some v → below < key) → cond b (Some w) o ≡ Some v → below < key
   found_by true key k below v w o e l h f = subst (λ n. below < n) (sym (same_key key k e)) l
@@ -104,8 +91,8 @@ module _ {V : Type 0} where
   -- a key that is found in a list is not below what all of it is above
   found_above : (key below : ℕ) (v : V) (es : List (ℕ × V)) → T (below_all nat_cmp below es) → find nat_cmp key es ≡ Some v → below < key
   found_above key below v [] h f = some_is_none v (sym f)
-  found_above key below v (e ∷ es) h f = found_by (eq_by_cmp nat_cmp key e.0) key e.0 below v e.1 (find nat_cmp key es) refl (less_is below e.0 (first_and (is_lt (nat_cmp below e.0)) (below_all nat_cmp below es) h))
-      (found_above key below v es (second_and (is_lt (nat_cmp below e.0)) (below_all nat_cmp below es) h)) f
+  found_above key below v (e ∷ es) h f = found_by (eq_by_cmp nat_cmp key e.0) key e.0 below v e.1 (find nat_cmp key es) refl (nat_less_is below e.0 (first_true (is_lt (nat_cmp below e.0)) (below_all nat_cmp below es) h))
+      (found_above key below v es (second_true (is_lt (nat_cmp below e.0)) (below_all nat_cmp below es) h)) f
 
   kept_by : (key k : ℕ) (v w : V) (F G : List (ℕ × V)) (a b : Bool) → nat_le key k ≡ a → nat_le (key + 1) k ≡ b → key ≡ k → w ≡ v → F ≡ G → cond a ((k, w) ∷ F) F ≡ (key, v) ∷ cond b ((k, w) ∷ G) G
   kept_by key k v w F G true true ha hb e q f = absurd (grind (arith, nat_tests))
@@ -129,7 +116,7 @@ module _ {V : Type 0} where
 
   hit_list : (key : ℕ) (v : V) (es : List (ℕ × V)) → T (is_sorted nat_cmp es) → find nat_cmp key es ≡ Some v → from key es ≡ (key, v) ∷ from (key + 1) es
   hit_list key v [] s h = some_is_none v (sym h)
-  hit_list key v (e ∷ es) s h = hit_by (eq_by_cmp nat_cmp key e.0) key v e es refl (first_and (below_all nat_cmp e.0 es) (is_sorted nat_cmp es) s) (hit_list key v es (second_and (below_all nat_cmp e.0 es) (is_sorted nat_cmp es) s)) h
+  hit_list key v (e ∷ es) s h = hit_by (eq_by_cmp nat_cmp key e.0) key v e es refl (first_true (below_all nat_cmp e.0 es) (is_sorted nat_cmp es) s) (hit_list key v es (second_true (below_all nat_cmp e.0 es) (is_sorted nat_cmp es) s)) h
 
   pub entries_hit : (m : FinMap nat_cmp V) (key : ℕ) (v : V) → get m key ≡ Some v → entries_from key m ≡ (key, v) ∷ entries_from (key + 1) m
   entries_hit m key v h = hit_list key v (entries m) (entries_sorted m) (sym (get-entries m key) ∙ h)

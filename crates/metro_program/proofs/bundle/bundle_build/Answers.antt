@@ -1,4 +1,4 @@
-use Rattle.std.proofs.Common.{◌≡◌, Ok, refl, arith}
+use Rattle.std.proofs.Common.{Ok, refl}
 use Rattle.metro_program.proofs.Bundles.{done_own, keeps_stopped, keeps_written, write_own}
 use Rattle.metro_program.proofs.Writes.{writes_apart}
 use Rattle.metro_program.proofs.bundle.bundle_build.Goals as goal

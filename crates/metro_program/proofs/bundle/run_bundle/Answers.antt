@@ -1,4 +1,4 @@
-use Rattle.std.proofs.Common.{false, refl, subst, sym, ap, ◌∙◌}
+use Rattle.std.proofs.Common.{false, refl, subst, sym}
 use Rattle.metro_program.specs.Bundle.{bundle_plan, snapshot_plan}
 use Rattle.metro_program.specs.Progress.{IsOwn}
 use Rattle.metro_program.proofs.Owes.{bundle_owes, crawl_looks, crawl_owes, crawl_own, crawl_takes}

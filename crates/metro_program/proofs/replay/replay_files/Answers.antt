@@ -1,8 +1,7 @@
-use Rattle.std.proofs.Common.{ap, sym, subst, ◌∙◌, refl, None}
+use Rattle.std.proofs.Common.{ap, sym, subst, ◌∙◌}
 use Rattle.mt_io.specs.Seen.{Stopped, Wrote}
 use Rattle.metro_program.specs.Builds.{asked_step}
 use Rattle.metro_program.specs.Replay.{lines_after}
-use Rattle.metro_program.specs.States.{opened}
 use Rattle.metro_program.proofs.HasDone.{opened_begun, opened_fault, trouble_word}
 use Rattle.mt_report.specs.Outcomes.{status_of}
 use Rattle.metro_program.proofs.Writes.{lacks_apart}

@@ -1,5 +1,4 @@
-use Rattle.std.proofs.Common.{None, [], ap, sym, subst, refl, ◌∙◌, ◌≤◌, arith}
-use Rattle.metro_program.specs.Progress.{Ends}
+use Rattle.std.proofs.Common.{None, [], ap, refl, ◌∙◌, arith}
 use Rattle.metro_program.proofs.HasDone.{first_done, memory_ends, memory_word}
 use Rattle.metro_program.proofs.Writes.{looks_none, looks_then}
 use Rattle.metro_program.proofs.replay.run_script.Goals as goal

@@ -1,4 +1,4 @@
-use Rattle.std.proofs.Common.{◌≡◌, ◌≤◌, Some, None}
+use Rattle.std.proofs.Common.{◌≡◌, ◌≤◌, None}
 use Rattle.mt_io.specs.Seen.{Looks}
 use Rattle.metro_program.specs.Progress.{HasDone, IsBegun, Start}
 use Rattle.metro_program.proofs.replay.run_script.Given as goal

@@ -1,5 +1,4 @@
-use Rattle.std.proofs.Common.{Err, ap, sym, subst, ◌∙◌}
-use Rattle.mt_io.specs.Seen.{Tells}
+use Rattle.std.proofs.Common.{Err, ap, sym, ◌∙◌}
 use Rattle.metro_program.proofs.HasDone.{own_word, script_word, turn_err, turn_on, turn_stopped}
 use Rattle.mt_report.specs.Outcomes.{status_of}
 use Rattle.metro_program.proofs.replay.turn.Goals as goal

@@ -1,4 +1,3 @@
-use Rattle.std.proofs.Common.{sym, subst}
 use Rattle.metro_program.proofs.Owes.{bundle_request, replay_request}
 use Rattle.metro_program.proofs.still.run.Goals as goal
 

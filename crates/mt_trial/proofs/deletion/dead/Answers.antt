@@ -11,180 +11,102 @@ use Rattle.std.proofs.lemmas.Result.{IfOk-weaker}
 use Rattle.mt_containers.specs.Walks.{IsReached}
 use Rattle.mt_refs.specs.Graphs.{IsLive, edges_from}
 use Rattle.mt_trial.specs.Deaths.{IsDead, left_at}
-use Rattle.mt_trial.proofs.Reaches.{held_inside, node_reached, nodes_closed, nodes_live, nodes_sorted, reads_least}
+use Rattle.mt_trial.proofs.Reaches.{are_reached, has_reached, held_inside, nodes_closed, reads_least}
 use Rattle.mt_trial.proofs.Deaths.{rest_dead}
 use Rattle.mt_trial.proofs.deletion.dead.Goals as goal
 
 pub returns-in_err-walk-clause-cost : goal.returns-in_err-walk-clause-cost
 returns-in_err-walk-clause-cost g c = λ most ascending is.
-    let graph = c.args.overlay.now in
-    let wanted = c.args.candidates.now in
-    let starts = c.in_ok-starts.starts in
-    let same = c.in_ok-starts.ensures.items in
-    let first = c.walk.ensures.cost most ascending (λ n r. (is n).1 (subst (λ (xs : List ℕ). IsReached (edges_from graph) xs n) same r)) in
+    let first = c.walk.ensures.cost most ascending (has_reached c.args.overlay.now c.args.candidates.now _ most c.in_ok-starts.ensures.items is) in
     omega arith
 
 pub returns-in_err-reached-clause-cost : goal.returns-in_err-reached-clause-cost
 returns-in_err-reached-clause-cost g c = λ most ascending is.
-    let graph = c.args.overlay.now in
-    let wanted = c.args.candidates.now in
-    let starts = c.in_ok-starts.starts in
-    let same = c.in_ok-starts.ensures.items in
-    let first = c.walk.ensures.cost most ascending (λ n r. (is n).1 (subst (λ (xs : List ℕ). IsReached (edges_from graph) xs n) same r)) in
+    let first = c.walk.ensures.cost most ascending (has_reached c.args.overlay.now c.args.candidates.now _ most c.in_ok-starts.ensures.items is) in
     omega arith
 
 pub outer_counts-requires-clause-live : goal.outer_counts-requires-clause-live
 outer_counts-requires-clause-live g c =
-    let graph = c.args.overlay.now in
-    let wanted = c.args.candidates.now in
-    let starts = c.in_ok-starts.starts in
-    let same = c.in_ok-starts.ensures.items in
-    let nodes = c.as_slice.result.now in
-    let reached = c.in_ok-walk.field-0 in
-    let listed = c.as_slice.ensures.items ∙ c.in_ok-reached.ensures.numbers in
-    let all = c.in_ok-walk.ensures.reached in
-    nodes_live graph wanted starts nodes reached same listed all c.in_ok-walk.ensures.live
+    let all = are_reached c.args.overlay.now c.args.candidates.now _ _ _ c.in_ok-starts.ensures.items (c.as_slice.ensures.items ∙ c.in_ok-reached.ensures.numbers) c.in_ok-walk.ensures.reached c.in_ok-walk.ensures.live in
+    all.live
 
 pub outer_counts-requires-clause-ascending : goal.outer_counts-requires-clause-ascending
 outer_counts-requires-clause-ascending g c =
-    let graph = c.args.overlay.now in
-    let wanted = c.args.candidates.now in
-    let starts = c.in_ok-starts.starts in
-    let same = c.in_ok-starts.ensures.items in
-    let nodes = c.as_slice.result.now in
-    let reached = c.in_ok-walk.field-0 in
-    let listed = c.as_slice.ensures.items ∙ c.in_ok-reached.ensures.numbers in
-    let all = c.in_ok-walk.ensures.reached in
-    nodes_sorted graph wanted starts nodes reached same listed all
+    let all = are_reached c.args.overlay.now c.args.candidates.now _ _ _ c.in_ok-starts.ensures.items (c.as_slice.ensures.items ∙ c.in_ok-reached.ensures.numbers) c.in_ok-walk.ensures.reached c.in_ok-walk.ensures.live in
+    all.ascending
 
 pub outer_counts-requires-clause-closed : goal.outer_counts-requires-clause-closed
 outer_counts-requires-clause-closed g c =
-    let graph = c.args.overlay.now in
-    let wanted = c.args.candidates.now in
-    let starts = c.in_ok-starts.starts in
-    let same = c.in_ok-starts.ensures.items in
-    let nodes = c.as_slice.result.now in
-    let reached = c.in_ok-walk.field-0 in
-    let listed = c.as_slice.ensures.items ∙ c.in_ok-reached.ensures.numbers in
-    let all = c.in_ok-walk.ensures.reached in
-    nodes_closed graph wanted starts nodes reached same listed all
+    let all = are_reached c.args.overlay.now c.args.candidates.now _ _ _ c.in_ok-starts.ensures.items (c.as_slice.ensures.items ∙ c.in_ok-reached.ensures.numbers) c.in_ok-walk.ensures.reached c.in_ok-walk.ensures.live in
+    nodes_closed _ _ _ all
 
 pub returns-in_err-counts-clause-cost : goal.returns-in_err-counts-clause-cost
 returns-in_err-counts-clause-cost g c = λ most ascending is.
-    let graph = c.args.overlay.now in
-    let wanted = c.args.candidates.now in
-    let starts = c.in_ok-starts.starts in
-    let same = c.in_ok-starts.ensures.items in
-    let nodes = c.as_slice.result.now in
-    let reached = c.in_ok-walk.field-0 in
-    let listed = c.as_slice.ensures.items ∙ c.in_ok-reached.ensures.numbers in
-    let all = c.in_ok-walk.ensures.reached in
-    let first = c.walk.ensures.cost most ascending (λ n r. (is n).1 (subst (λ (xs : List ℕ). IsReached (edges_from graph) xs n) same r)) in
-    let least = reads_least graph wanted starts nodes reached same listed all most ascending (λ n r. (is n).1 r) in
+    let all = are_reached c.args.overlay.now c.args.candidates.now _ _ _ c.in_ok-starts.ensures.items (c.as_slice.ensures.items ∙ c.in_ok-reached.ensures.numbers) c.in_ok-walk.ensures.reached c.in_ok-walk.ensures.live in
+    let first = c.walk.ensures.cost most ascending (has_reached c.args.overlay.now c.args.candidates.now _ most c.in_ok-starts.ensures.items is) in
+    let least = reads_least _ _ _ all most ascending is in
     let second = c.outer_counts.ensures.cost in
     omega arith
 
 pub returns-in_err-holding-clause-cost : goal.returns-in_err-holding-clause-cost
 returns-in_err-holding-clause-cost g c = λ most ascending is.
-    let graph = c.args.overlay.now in
-    let wanted = c.args.candidates.now in
-    let starts = c.in_ok-starts.starts in
-    let same = c.in_ok-starts.ensures.items in
-    let nodes = c.as_slice.result.now in
-    let reached = c.in_ok-walk.field-0 in
-    let listed = c.as_slice.ensures.items ∙ c.in_ok-reached.ensures.numbers in
-    let all = c.in_ok-walk.ensures.reached in
-    let first = c.walk.ensures.cost most ascending (λ n r. (is n).1 (subst (λ (xs : List ℕ). IsReached (edges_from graph) xs n) same r)) in
-    let least = reads_least graph wanted starts nodes reached same listed all most ascending (λ n r. (is n).1 r) in
+    let all = are_reached c.args.overlay.now c.args.candidates.now _ _ _ c.in_ok-starts.ensures.items (c.as_slice.ensures.items ∙ c.in_ok-reached.ensures.numbers) c.in_ok-walk.ensures.reached c.in_ok-walk.ensures.live in
+    let first = c.walk.ensures.cost most ascending (has_reached c.args.overlay.now c.args.candidates.now _ most c.in_ok-starts.ensures.items is) in
+    let least = reads_least _ _ _ all most ascending is in
     let second = c.outer_counts.ensures.cost in
     omega arith
 
 pub walk-requires-2 : goal.walk-requires-2
 walk-requires-2 g c =
-    let graph = c.args.overlay.now in
-    let wanted = c.args.candidates.now in
-    let starts = c.in_ok-starts.starts in
-    let same = c.in_ok-starts.ensures.items in
-    let nodes = c.as_slice.result.now in
-    let reached = c.in_ok-walk.field-0 in
-    let listed = c.as_slice.ensures.items ∙ c.in_ok-reached.ensures.numbers in
-    let all = c.in_ok-walk.ensures.reached in
+    let all = are_reached c.args.overlay.now c.args.candidates.now _ _ _ c.in_ok-starts.ensures.items (c.as_slice.ensures.items ∙ c.in_ok-reached.ensures.numbers) c.in_ok-walk.ensures.reached c.in_ok-walk.ensures.live in
     let test = λ (n : ℕ). nat_lt 0 (left_at c.in_ok-counts.counts n) in
-    let held : c.in_ok-holding.holding ≡ filter test nodes = c.in_ok-holding.ensures.held ∙ ap (filter test) (c.as_slice-2.ensures.items ∙ sym c.as_slice.ensures.items) in
-    record { live = All-same (IsLive graph) c.in_ok-holding.holding (filter test nodes) held (All-filter test (IsLive graph) nodes (nodes_live graph wanted starts nodes reached same listed all c.in_ok-walk.ensures.live)) }
+    let held : c.in_ok-holding.holding ≡ filter test c.as_slice.result.now = c.in_ok-holding.ensures.held ∙ ap (filter test) (c.as_slice-2.ensures.items ∙ sym c.as_slice.ensures.items) in
+    record { live = All-same (IsLive c.args.overlay.now) _ _ held (All-filter test (IsLive c.args.overlay.now) _ all.live) }
 
 pub returns-in_err-kept-clause-cost : goal.returns-in_err-kept-clause-cost
 returns-in_err-kept-clause-cost g c = λ most ascending is.
-    let graph = c.args.overlay.now in
-    let wanted = c.args.candidates.now in
-    let starts = c.in_ok-starts.starts in
-    let same = c.in_ok-starts.ensures.items in
-    let nodes = c.as_slice.result.now in
-    let reached = c.in_ok-walk.field-0 in
-    let listed = c.as_slice.ensures.items ∙ c.in_ok-reached.ensures.numbers in
-    let all = c.in_ok-walk.ensures.reached in
+    let all = are_reached c.args.overlay.now c.args.candidates.now _ _ _ c.in_ok-starts.ensures.items (c.as_slice.ensures.items ∙ c.in_ok-reached.ensures.numbers) c.in_ok-walk.ensures.reached c.in_ok-walk.ensures.live in
     let test = λ (n : ℕ). nat_lt 0 (left_at c.in_ok-counts.counts n) in
-    let held : c.in_ok-holding.holding ≡ filter test nodes = c.in_ok-holding.ensures.held ∙ ap (filter test) (c.as_slice-2.ensures.items ∙ sym c.as_slice.ensures.items) in
-    let first = c.walk.ensures.cost most ascending (λ n r. (is n).1 (subst (λ (xs : List ℕ). IsReached (edges_from graph) xs n) same r)) in
-    let least = reads_least graph wanted starts nodes reached same listed all most ascending (λ n r. (is n).1 r) in
+    let held : c.in_ok-holding.holding ≡ filter test c.as_slice.result.now = c.in_ok-holding.ensures.held ∙ ap (filter test) (c.as_slice-2.ensures.items ∙ sym c.as_slice.ensures.items) in
+    let first = c.walk.ensures.cost most ascending (has_reached c.args.overlay.now c.args.candidates.now _ most c.in_ok-starts.ensures.items is) in
+    let least = reads_least _ _ _ all most ascending is in
     let second = c.outer_counts.ensures.cost in
-    let third = c.walk-2.ensures.cost nodes (nodes_sorted graph wanted starts nodes reached same listed all) (λ n r. held_inside graph wanted starts nodes reached same listed all test n (subst (λ (xs : List ℕ). IsReached (edges_from graph) xs n) held r)) in
+    let third = c.walk-2.ensures.cost _ all.ascending (held_inside _ _ _ all test _ held) in
     omega arith
 
 pub returns-clause-cost : goal.returns-clause-cost
 returns-clause-cost g c = λ most ascending is.
-    let graph = c.args.overlay.now in
-    let wanted = c.args.candidates.now in
-    let starts = c.in_ok-starts.starts in
-    let same = c.in_ok-starts.ensures.items in
-    let nodes = c.as_slice.result.now in
-    let reached = c.in_ok-walk.field-0 in
-    let listed = c.as_slice.ensures.items ∙ c.in_ok-reached.ensures.numbers in
-    let all = c.in_ok-walk.ensures.reached in
+    let all = are_reached c.args.overlay.now c.args.candidates.now _ _ _ c.in_ok-starts.ensures.items (c.as_slice.ensures.items ∙ c.in_ok-reached.ensures.numbers) c.in_ok-walk.ensures.reached c.in_ok-walk.ensures.live in
     let test = λ (n : ℕ). nat_lt 0 (left_at c.in_ok-counts.counts n) in
-    let held : c.in_ok-holding.holding ≡ filter test nodes = c.in_ok-holding.ensures.held ∙ ap (filter test) (c.as_slice-2.ensures.items ∙ sym c.as_slice.ensures.items) in
-    let first = c.walk.ensures.cost most ascending (λ n r. (is n).1 (subst (λ (xs : List ℕ). IsReached (edges_from graph) xs n) same r)) in
-    let least = reads_least graph wanted starts nodes reached same listed all most ascending (λ n r. (is n).1 r) in
+    let held : c.in_ok-holding.holding ≡ filter test c.as_slice.result.now = c.in_ok-holding.ensures.held ∙ ap (filter test) (c.as_slice-2.ensures.items ∙ sym c.as_slice.ensures.items) in
+    let first = c.walk.ensures.cost most ascending (has_reached c.args.overlay.now c.args.candidates.now _ most c.in_ok-starts.ensures.items is) in
+    let least = reads_least _ _ _ all most ascending is in
     let second = c.outer_counts.ensures.cost in
-    let third = c.walk-2.ensures.cost nodes (nodes_sorted graph wanted starts nodes reached same listed all) (λ n r. held_inside graph wanted starts nodes reached same listed all test n (subst (λ (xs : List ℕ). IsReached (edges_from graph) xs n) held r)) in
+    let third = c.walk-2.ensures.cost _ all.ascending (held_inside _ _ _ all test _ held) in
     omega arith
 
 pub returns-clause-ascending : goal.returns-clause-ascending
 returns-clause-ascending g c =
-    let graph = c.args.overlay.now in
-    let wanted = c.args.candidates.now in
-    let starts = c.in_ok-starts.starts in
-    let same = c.in_ok-starts.ensures.items in
-    let nodes = c.as_slice.result.now in
-    let reached = c.in_ok-walk.field-0 in
-    let listed = c.as_slice.ensures.items ∙ c.in_ok-reached.ensures.numbers in
-    let all = c.in_ok-walk.ensures.reached in
-    let kept = c.in_ok-kept.kept in
-    let lost = λ (n : ℕ). not (contains_key kept n) in
-    let again : c.as_slice-3.result.now ≡ nodes = c.as_slice-3.ensures.items ∙ sym c.as_slice.ensures.items in
+    let all = are_reached c.args.overlay.now c.args.candidates.now _ _ _ c.in_ok-starts.ensures.items (c.as_slice.ensures.items ∙ c.in_ok-reached.ensures.numbers) c.in_ok-walk.ensures.reached c.in_ok-walk.ensures.live in
+    let lost = λ (n : ℕ). not (contains_key c.in_ok-kept.kept n) in
+    let again : c.as_slice-3.result.now ≡ c.as_slice.result.now = c.as_slice-3.ensures.items ∙ sym c.as_slice.ensures.items in
     IfOk-weaker c.without.result (λ rest. rest ≡ filter lost c.as_slice-3.result.now) (λ dead. IsStrictlySortedBy nat_cmp dead)
-    (λ rest is. subst (IsStrictlySortedBy nat_cmp) (sym (is ∙ ap (filter lost) again)) (IsStrictlySortedBy-filter nat_cmp lost nodes (nodes_sorted graph wanted starts nodes reached same listed all)))
+    (λ rest is. subst (IsStrictlySortedBy nat_cmp) (sym (is ∙ ap (filter lost) again)) (IsStrictlySortedBy-filter nat_cmp lost _ all.ascending))
     c.without.ensures.rest
 
 pub returns-clause-dead : goal.returns-clause-dead
 returns-clause-dead g c =
     let graph = c.args.overlay.now in
-    let wanted = c.args.candidates.now in
-    let starts = c.in_ok-starts.starts in
-    let same = c.in_ok-starts.ensures.items in
     let nodes = c.as_slice.result.now in
-    let reached = c.in_ok-walk.field-0 in
-    let listed = c.as_slice.ensures.items ∙ c.in_ok-reached.ensures.numbers in
-    let all = c.in_ok-walk.ensures.reached in
+    let all = are_reached graph c.args.candidates.now _ _ _ c.in_ok-starts.ensures.items (c.as_slice.ensures.items ∙ c.in_ok-reached.ensures.numbers) c.in_ok-walk.ensures.reached c.in_ok-walk.ensures.live in
     let test = λ (n : ℕ). nat_lt 0 (left_at c.in_ok-counts.counts n) in
-    let held : c.in_ok-holding.holding ≡ filter test nodes = c.in_ok-holding.ensures.held ∙ ap (filter test) (c.as_slice-2.ensures.items ∙ sym c.as_slice.ensures.items) in
-    let kept = c.in_ok-kept.kept in
-    let lost = λ (n : ℕ). not (contains_key kept n) in
-    let again : c.as_slice-3.result.now ≡ nodes = c.as_slice-3.ensures.items ∙ sym c.as_slice.ensures.items in
+    let held : c.in_ok-holding.holding ≡ filter test c.as_slice.result.now = c.in_ok-holding.ensures.held ∙ ap (filter test) (c.as_slice-2.ensures.items ∙ sym c.as_slice.ensures.items) in
+    let lost = λ (n : ℕ). not (contains_key c.in_ok-kept.kept n) in
+    let again : c.as_slice-3.result.now ≡ c.as_slice.result.now = c.as_slice-3.ensures.items ∙ sym c.as_slice.ensures.items in
     IfOk-weaker c.without.result (λ rest. rest ≡ filter lost c.as_slice-3.result.now) (λ dead. (n : ℕ) → Contains dead n ↔ IsDead graph n)
     (λ rest is n.
     subst (λ (xs : List ℕ). Contains xs n ↔ IsDead graph n) (sym (is ∙ ap (filter lost) again))
-    (rest_dead graph wanted nodes c.in_ok-counts.counts kept c.requires.cover (node_reached graph wanted starts nodes reached same listed all) (nodes_sorted graph wanted starts nodes reached same listed all) c.in_ok-counts.ensures.counts
-    (λ k. subst (λ (xs : List ℕ). IsTrue (contains_key kept k) ↔ IsReached (edges_from graph) xs k) held (c.in_ok-kept.ensures.reached k))
-    (λ k w. All-contains (IsLive graph) nodes k (nodes_live graph wanted starts nodes reached same listed all c.in_ok-walk.ensures.live) w) n))
+    (rest_dead graph c.args.candidates.now nodes c.in_ok-counts.counts c.in_ok-kept.kept c.requires.cover all.exact all.ascending c.in_ok-counts.ensures.counts
+    (λ k. subst (λ (xs : List ℕ). IsTrue (contains_key c.in_ok-kept.kept k) ↔ IsReached (edges_from graph) xs k) held (c.in_ok-kept.ensures.reached k))
+    (λ k w. All-contains (IsLive graph) nodes k all.live w) n))
     c.without.ensures.rest

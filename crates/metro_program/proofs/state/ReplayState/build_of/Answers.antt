@@ -1,4 +1,4 @@
-use Rattle.std.proofs.Common.{rules, ◌≡◌, Ok, option_copied, refl, ap, sym, subst, ◌∙◌}
+use Rattle.std.proofs.Common.{rules, ◌≡◌, Ok, option_copied, ap, sym, subst, ◌∙◌}
 use Rattle.mt_graph.specs.Graphs.{fresh_graph}
 use Rattle.metro_program.specs.Builds.{next_build, numbering_after}
 use Rattle.metro_program.specs.States.{State}
