@@ -1,7 +1,7 @@
 #!/usr/bin/env bash
 # Measures metro on made folders: 1,000, 10,000 and 50,000 small modules that require each other, 64 MB of source in
 # 100 files, 5,000 modules of 1 KiB beside `cat` of the same files, and 2,000 modules of 1,000 edges; then replays over 1,000 small modules, of 2,000
-# edits that are built one by one and of 65,536 changes. Run by hand, after `rt ci` has left the program, or with
+# edits that are built one by one and of 65,536 changes; then single modules of many tokens. Run by hand, after `rt ci` has left the program, or with
 # METRO_PROGRAM naming another one.
 set -eu
 top="$(cd "$(dirname "$0")/.." && pwd)"
@@ -65,17 +65,18 @@ with open(os.path.join(folder, "index.js"), "w") as file:
 PY
 }
 
-# timed FOLDER [COMMAND [SCRIPT [RUNS]]]: seconds of the fastest run, and the kilobytes of the largest. The peak is asked
-# for as the program runs, since what the system tells of a process that ended counts what it was started from, too.
+# timed FOLDER [COMMAND [SCRIPT [RUNS [ENTRY [STATUS]]]]]: seconds of the fastest run, and the kilobytes of the largest; each has
+# to end with STATUS. The peak is asked for as the program runs, since what the system tells of a process that ended counts what
+# it was started from, too.
 timed() {
-  (cd "$1" && python3 - "$program" "${2:-bundle}" "${3:-/dev/null}" "${4:-3}" <<'PY'
+  (cd "$1" && python3 - "$program" "${2:-bundle}" "${3:-/dev/null}" "${4:-3}" "${5:-index.js}" "${6:-0}" <<'PY'
 import subprocess, sys, time
-program, command, script, runs = sys.argv[1:]
+program, command, script, runs, entry, status = sys.argv[1:]
 best, peak = None, 0
 for _ in range(int(runs)):
     with open(script, "rb") as source:
         start = time.time()
-        run = subprocess.Popen([program, command, "index.js"], stdin=source, stdout=subprocess.DEVNULL)
+        run = subprocess.Popen([program, command, entry], stdin=source, stdout=subprocess.DEVNULL, stderr=subprocess.DEVNULL)
     last = 0
     while run.poll() is None:
         try:
@@ -87,7 +88,7 @@ for _ in range(int(runs)):
             pass
         time.sleep(0.0005)
     taken = time.time() - start
-    if run.returncode != 0:
+    if run.returncode != int(status):
         sys.exit("status %d" % run.returncode)
     best = taken if best is None else min(best, taken)
     peak = max(peak, last)
@@ -168,3 +169,43 @@ edits 2000 1 build >"$work/edits"
 replayed "2000 edits of one module with a build each" "$work/edits" 2001
 edits 65536 1000 "" >"$work/changes"
 replayed "65536 changes of 1000 modules with one build" "$work/changes" 2
+
+# repeated NAME STATUS FIRST HEAD MIDDLE TAIL [ENTRY]: one module of 8 and one of 16 MB, of FIRST, HEAD so many times, MIDDLE, and
+# TAIL as often. Each is bundled, with this STATUS.
+repeated() {
+  local size seconds peak half entry
+  half=""
+  entry="${7:-index.js}"
+  rm -rf "$work/repeated"
+  mkdir -p "$work/repeated"
+  for size in 8388608 16777216; do
+    python3 - "$work/repeated/$entry" "$size" "$3" "$4" "$5" "$6" <<'PY'
+import sys
+path, size, first, head, middle, tail = sys.argv[1:]
+count = (int(size) - len((first + middle).encode())) // len((head + tail).encode())
+with open(path, "w", encoding="utf-8") as file:
+    file.write(first + head * count + middle + tail * count)
+PY
+    read -r seconds peak <<<"$(timed "$work/repeated" bundle /dev/null 2 "$entry" "$2")"
+    [ -n "$half" ] || half="$seconds"
+  done
+  echo "$1: $seconds s for 16 MB, $(python3 -c "print('%.2f' % ($seconds / $half))") times 8 MB (wanted: 2.2), peak $peak KB"
+}
+
+repeated '`;`' 0 '' ';' '' ''
+repeated '`a;`' 0 '' 'a;' '' ''
+repeated 'divisions after parentheses' 0 '' '(1)/a/' '1' ''
+repeated 'regular expressions after blocks' 0 '' '{}/a/g;' '' ''
+repeated 'divisions after comments' 0 '' '/**/ /**/x/' '1' ''
+repeated 'nested templates' 0 '' '`${' '1' '}`'
+repeated 'nested templates, unclosed' 1 '' '`${' '' ''
+repeated 'nested parentheses' 0 '' '(' '1' ')'
+repeated 'a name above U+007F' 0 '' 'é' '' ''
+repeated 'a name of escapes' 0 '' '\u{e9}' '' ''
+repeated 'nested functions with values of parameters' 0 '' 'function(a=' '1' '){}'
+repeated '`require("a")`' 1 '' 'require("a")' '' ''
+repeated '`require("a")` with comments' 1 '' 'require/**/(/**/"a"/**/)' '' ''
+repeated '`export var a,a,..`' 0 'export var a' ',a' '' ''
+repeated 'JSON' 0 '["a"' ',{"b":[1.5,null]}' ']' '' index.json
+repeated 'JSON nested 127 deep' 0 '[0' ",$(printf '[%.0s' {1..126})$(printf ']%.0s' {1..126})" ']' '' index.json
+repeated 'JSON nested 128 deep' 1 '[0' ",$(printf '[%.0s' {1..127})$(printf ']%.0s' {1..127})" ']' '' index.json

@@ -20,7 +20,21 @@ refused() {
   check "refused: $line" 1 "$work/empty" "metro: $line" "$folder" bundle a.js
 }
 refused 'entry /a.js is not a source file' b.js '1;' c.js '1;'
-refused '/a.js:6: not built yet' a.js 'x = 1 / 2;'
+refused '/a.js:7: syntax: import form' a.js 'x = 1; import 7;'
+refused '/a.js:0: syntax: import form' a.js 'import "\ud83d";'
+refused '/a.js:0: syntax: import form' a.js 'import a from "\u{110000}"; export 7;'
+refused '/a.js:0: syntax: export form' a.js 'export a; import 7;'
+refused '/a.js:7: syntax: export form' a.js 'import export from "./b.js"' b.js ''
+refused '/d.json:0: not JSON' a.js 'require("./d.json");' d.json '{"v":}'
+refused '/a.js:0: more than 4096 dependencies' a.js "$(seq -f 'require("./%.0f.js");' 4097)"
+refused '/a.js:4: syntax: unclosed regular expression' a.js 'x = /a'
+refused '/a.js:4: syntax: unclosed template' a.js 'x = `a'
+refused '/a.js:3: syntax: unclosed template' a.js '`${`a'
+refused '/a.js:2: syntax: bad character' a.js 'x #'
+refused '/a.js:1: syntax: bad character' a.js ' #!a'
+refused '/a.js:2: syntax: bad character' a.js 'x \'
+refused '/a.js:3: syntax: unclosed string' a.js $'x; "a\rb"'
+refused '/a.js:1: syntax: unbalanced bracket' a.js '(]'
 refused '/a.js:8: cannot resolve "./c.js"' a.js 'require("./c.js");' b.js '1;'
 refused '/a.js:19: syntax: unbalanced bracket' a.js $'require("./b.js");\n)' b.js '"'
 refused '/b.js:0: syntax: unclosed string' a.js 'require("./b.js");' b.js "'x"

@@ -8,9 +8,15 @@ mod callers;
 #[cfg(test)]
 mod common;
 #[cfg(test)]
+mod cooked;
+#[cfg(test)]
+mod goals;
+#[cfg(test)]
 mod lists;
 #[cfg(test)]
 mod maps;
+#[cfg(test)]
+mod names;
 #[cfg(test)]
 mod outside;
 #[cfg(test)]

@@ -1,6 +1,9 @@
 //! The lexical grammar at its corners.
 use mt_tokens::TokenKind::{Comment, Ident, Number, Punct, Space, Str};
-use mt_tokens::{MAX_TEXT_BYTES, TokenFault, TokenKind, byte_at, is_quote_byte, tokens};
+use mt_tokens::{
+    MAX_TEXT_BYTES, TokenFault, TokenKind, byte_at, is_mark_token, is_plain_word, is_quote_byte,
+    is_seen_kind, is_word_token, token_bytes, tokens,
+};
 use std::alloc::Global;
 use std::test::Fail;
 
@@ -67,7 +70,14 @@ fn comments_end_with_their_line_or_mark(rt: HostRuntime) {
             TokenFault::UnclosedComment { place: 1 }
         )
     );
-    assert!(rt; has_fault(rt.alloc(), "//a\u{2028}", TokenFault::NotYet { place: 3 }));
+    assert!(rt;
+        has_tokens(
+            rt.alloc(),
+            "//a\u{2028}b",
+            &[(Comment, 3), (Space, 6), (Ident, 7)]
+        )
+    );
+    assert!(rt; has_fault(rt.alloc(), " #!a", TokenFault::BadByte { place: 1 }));
 }
 
 #[test]
@@ -105,10 +115,10 @@ fn strings_end_with_their_quote(rt: HostRuntime) {
 
 #[test]
 fn the_first_fault_is_answered(rt: HostRuntime) {
-    assert!(rt; has_fault(rt.alloc(), "a/b/c", TokenFault::NotYet { place: 1 }));
-    assert!(rt; has_fault(rt.alloc(), "x = 1 / 2;", TokenFault::NotYet { place: 6 }));
-    assert!(rt; has_fault(rt.alloc(), "x #!", TokenFault::NotYet { place: 2 }));
-    assert!(rt; has_fault(rt.alloc(), "é", TokenFault::NotYet { place: 0 }));
+    assert!(rt; has_fault(rt.alloc(), "x #!", TokenFault::BadByte { place: 2 }));
+    assert!(rt; has_fault(rt.alloc(), "a\\", TokenFault::BadByte { place: 1 }));
+    assert!(rt; has_fault(rt.alloc(), "'a\r'", TokenFault::UnclosedString { place: 0 }));
+    assert!(rt; has_fault(rt.alloc(), "(a\u{180e}", TokenFault::BadByte { place: 2 }));
     assert!(rt; has_fault(rt.alloc(), "a\u{7f}", TokenFault::BadByte { place: 1 }));
 }
 
@@ -132,6 +142,7 @@ fn brackets_come_in_pairs(rt: HostRuntime) {
     assert!(rt; has_fault(rt.alloc(), "((", TokenFault::Unbalanced { place: 1 }));
     assert!(rt; has_fault(rt.alloc(), "((a)", TokenFault::Unbalanced { place: 0 }));
     assert!(rt; has_fault(rt.alloc(), ")", TokenFault::Unbalanced { place: 0 }));
+    assert!(rt; has_fault(rt.alloc(), "x}`", TokenFault::Unbalanced { place: 1 }));
 }
 
 #[test]
@@ -150,6 +161,20 @@ fn a_token_list_is_read_by_numbers(rt: HostRuntime) -> Result<(), Fail> {
     assert!(rt; found.len() == 2 && !found.is_empty());
     let last = found.at(1);
     assert!(rt; last.kind == Punct && last.start == 2 && last.end == 3);
+    Ok(())
+}
+
+#[test]
+fn a_token_is_told_by_its_bytes(rt: HostRuntime) -> Result<(), Fail> {
+    let found = tokens(rt.alloc(), "a.if;")?;
+    assert!(rt; found.len() == 4);
+    let dot = found.at(1);
+    let word = found.at(2);
+    assert!(rt; token_bytes(b"a.if;", word) == b"if".as_slice());
+    assert!(rt; is_word_token(b"a.if;", b"if", word) && is_mark_token(b"a.if;", b".", dot));
+    assert!(rt; is_plain_word(b"a.if;", b"if", None, word));
+    assert!(rt; !is_plain_word(b"a.if;", b"if", Some(dot), word));
+    assert!(rt; is_seen_kind(word.kind) && !is_seen_kind(Space));
     Ok(())
 }
 

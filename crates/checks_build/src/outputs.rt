@@ -5,14 +5,20 @@ use mt_transform::{Output, transform};
 use std::alloc::{AllocError, Global};
 use std::test::Fail;
 
-/// What `source` becomes; refused also where there is no memory for the source.
-fn read(alloc: Global, kind: PathKind, source: &[u8]) -> Result<Output, SourceFault> {
+/// What `source` becomes, with or without its comments; refused also where there is no memory for the source.
+fn read_with(
+    alloc: Global,
+    strip: bool,
+    kind: PathKind,
+    source: &[u8],
+) -> Result<Output, SourceFault> {
     if source.len() > MAX_SOURCE_BYTES {
         return Err(SourceFault::NoMemory);
     }
-    let Ok(options) = Options::standard(alloc) else {
+    let Ok(mut options) = Options::standard(alloc) else {
         return Err(SourceFault::NoMemory);
     };
+    options.strip = strip;
     let Ok(bytes) = Bytes::from_slice(alloc, source) else {
         return Err(SourceFault::NoMemory);
     };
@@ -22,6 +28,34 @@ fn read(alloc: Global, kind: PathKind, source: &[u8]) -> Result<Output, SourceFa
     transform(alloc, &options, kind, shared)
 }
 
+/// What `source` becomes with its comments.
+fn read(alloc: Global, kind: PathKind, source: &[u8]) -> Result<Output, SourceFault> {
+    read_with(alloc, false, kind, source)
+}
+
+/// Whether the script becomes this body without its comments.
+fn becomes_stripped(alloc: Global, script: &str, body: &str) -> bool {
+    match read_with(alloc, true, PathKind::Script, script.as_bytes()) {
+        Ok(output) => output.body() == body.as_bytes(),
+        Err(_) => false,
+    }
+}
+
+/// Whether the JSON source becomes this body.
+fn json_becomes(alloc: Global, source: &str, body: &str) -> bool {
+    match read(alloc, PathKind::Json, source.as_bytes()) {
+        Ok(output) => output.body() == body.as_bytes() && output.names().is_empty(),
+        Err(_) => false,
+    }
+}
+
+fn is_no_json(alloc: Global, source: &str) -> bool {
+    matches!(
+        read(alloc, PathKind::Json, source.as_bytes()),
+        Err(SourceFault::Json)
+    )
+}
+
 /// Whether the script becomes this body with these names.
 fn becomes(alloc: Global, script: &str, body: &str, names: &[&str]) -> bool {
     let Ok(output) = read(alloc, PathKind::Script, script.as_bytes()) else {
@@ -29,14 +63,6 @@ fn becomes(alloc: Global, script: &str, body: &str, names: &[&str]) -> bool {
     };
     let found = output.names().iter().map(|name| name.text.as_str());
     output.body() == body.as_bytes() && found.eq(names.iter().copied())
-}
-
-/// The place at which the script has a form that is not read yet.
-fn unread_place(alloc: Global, script: &str) -> Option<u32> {
-    match read(alloc, PathKind::Script, script.as_bytes()) {
-        Err(SourceFault::NotYet { place }) => Some(place),
-        _ => None,
-    }
 }
 
 #[test]
@@ -98,19 +124,28 @@ fn a_property_is_no_requirement(rt: HostRuntime) {
 }
 
 #[test]
-fn other_forms_are_not_read_yet(rt: HostRuntime) {
+fn other_calls_stay(rt: HostRuntime) {
     for script in [
         "require(x)",
-        "import x",
-        "export {}",
         "require",
         r#"require("a" + b)"#,
-        r"require('\x61')",
+        r"require('\1')",
         "require('a', b)",
     ] {
-        assert!(rt; unread_place(rt.alloc(), script) == Some(0));
+        assert!(rt; becomes(rt.alloc(), script, script, &[]));
     }
-    assert!(rt; unread_place(rt.alloc(), "require('a');\nrequire()") == Some(14));
+}
+
+#[test]
+fn imports_are_replaced(rt: HostRuntime) {
+    assert!(rt;
+        becomes(
+            rt.alloc(),
+            r#"import a from "m"; import("\x61");"#,
+            "var a = importDefault(dependencyMap[0]); Promise.resolve(dependencyMap[1]).then(importAll);",
+            &["m", "a"]
+        )
+    );
 }
 
 #[test]
@@ -139,13 +174,15 @@ fn each_refusal_has_its_place(rt: HostRuntime) {
     for (script, place, why) in [
         (b"x = 'a".as_slice(), 4, SyntaxFault::UnclosedString),
         (b"/* x".as_slice(), 0, SyntaxFault::UnclosedComment),
+        (b"x = `a".as_slice(), 4, SyntaxFault::UnclosedTemplate),
+        (b"x = /a".as_slice(), 4, SyntaxFault::UnclosedRegex),
         (b"a\x7F".as_slice(), 1, SyntaxFault::BadCharacter),
         (b"(]".as_slice(), 1, SyntaxFault::UnbalancedBracket),
+        (b"import 7;".as_slice(), 0, SyntaxFault::ImportForm),
+        (b"x; export 1".as_slice(), 3, SyntaxFault::ExportForm),
     ] {
         assert!(rt; breaks_at(rt.alloc(), script, place, why));
     }
-    let fault = read(rt.alloc(), PathKind::Json, b"{}".as_slice()).err();
-    assert!(rt; matches!(fault, Some(SourceFault::NotYet { place: 0 })));
 }
 
 /// A script that requires the names 0, 1 and so on.
@@ -167,4 +204,99 @@ fn a_script_has_at_most_4096_names(rt: HostRuntime) -> Result<(), Fail> {
     let fault = read(rt.alloc(), PathKind::Script, more.as_bytes()).err();
     assert!(rt; matches!(fault, Some(SourceFault::TooManyDeps)));
     Ok(())
+}
+
+#[test]
+fn a_body_that_exports_has_a_first_line_and_its_names(rt: HostRuntime) -> Result<(), Fail> {
+    let script = "import App, { a as b } from \"./App\";\nexport default function Main() {}\n";
+    let body =
+        "Object.defineProperty(exports, \"__esModule\", { value: true });\nvar App = importDefault(dependencyMap[0]); var b = require(dependencyMap[0]).a;\n function Main() {}\n\nexports.default = Main;";
+    assert!(rt; becomes(rt.alloc(), script, body, &["./App"]));
+    let output = read(rt.alloc(), PathKind::Script, script.as_bytes())?;
+    assert_eq!(rt; output.names().len(), 1);
+    assert_eq!(rt; output.place(rt.alloc(), 0)?, 28);
+    Ok(())
+}
+
+#[test]
+fn comments_are_left_out(rt: HostRuntime) {
+    assert!(rt; becomes_stripped(rt.alloc(), "a/*x*/b//y", "a b"));
+    assert!(rt; becomes_stripped(rt.alloc(), "a/*\n*/b//y\nc", "a\nb\nc"));
+    assert!(rt; becomes_stripped(rt.alloc(), "#!/bin/x\n/**/1;", "\n 1;"));
+}
+
+#[test]
+fn comments_in_a_statement_go_with_it(rt: HostRuntime) {
+    assert!(rt;
+        becomes_stripped(
+            rt.alloc(),
+            "import /*x*/ a /*y*/ from 'm' /*z*/;/*w*/",
+            "var a = importDefault(dependencyMap[0]); "
+        )
+    );
+    assert!(rt;
+        becomes_stripped(
+            rt.alloc(),
+            "require(/*x*/'a'/*y*/)",
+            "require( dependencyMap[0] )"
+        )
+    );
+}
+
+#[test]
+fn each_line_end_in_a_comment_is_one(rt: HostRuntime) {
+    assert!(rt; becomes_stripped(rt.alloc(), "a/*\r*/b", "a\nb"));
+    assert!(rt; becomes_stripped(rt.alloc(), "a/*\u{2028}*/b", "a\nb"));
+    assert!(rt; becomes_stripped(rt.alloc(), "a/*é*//**/b", "a  b"));
+}
+
+/// Whether the name with this number is `a` of this kind.
+fn is_a(output: &Output, i: usize, kind: DepKind) -> bool {
+    match output.names().get(i) {
+        Some(name) => name.text.as_str() == "a" && name.kind == kind,
+        None => false,
+    }
+}
+
+#[test]
+fn a_name_of_three_kinds_is_three(rt: HostRuntime) -> Result<(), Fail> {
+    let script = r#"import "a";require("a");import("a");require(x);import(y)"#;
+    let output = read(rt.alloc(), PathKind::Script, script.as_bytes())?;
+    assert_eq!(rt; output.names().len(), 3);
+    assert!(rt; is_a(&output, 0, DepKind::Import));
+    assert!(rt; is_a(&output, 1, DepKind::Require));
+    assert!(rt; is_a(&output, 2, DepKind::ImportCall));
+    assert_eq!(rt; output.dynamic(), 2);
+    Ok(())
+}
+
+/// So many brackets, one in another.
+fn nested(alloc: Global, depth: u32) -> Result<String, AllocError> {
+    let mut text = String::new(alloc);
+    for _ in 0..depth {
+        text.push('[')?;
+    }
+    for _ in 0..depth {
+        text.push(']')?;
+    }
+    Ok(text)
+}
+
+#[test]
+fn json_nests_127_deep(rt: HostRuntime) -> Result<(), Fail> {
+    let most = nested(rt.alloc(), 127)?;
+    let more = nested(rt.alloc(), 128)?;
+    assert!(rt; read(rt.alloc(), PathKind::Json, most.as_bytes()).is_ok());
+    assert!(rt; is_no_json(rt.alloc(), &more));
+    Ok(())
+}
+
+#[test]
+fn json_is_exported_as_it_is(rt: HostRuntime) {
+    assert!(rt; json_becomes(rt.alloc(), "{\"v\":1}", "module.exports = {\"v\":1};"));
+    assert!(rt; json_becomes(rt.alloc(), " [1, 2]\n", "module.exports =  [1, 2]\n;"));
+    assert!(rt; is_no_json(rt.alloc(), "{v:1}"));
+    assert!(rt; is_no_json(rt.alloc(), ""));
+    let fault = read(rt.alloc(), PathKind::Json, b"{\xFF".as_slice()).err();
+    assert!(rt; matches!(fault, Some(SourceFault::NotUtf8 { place: 1 })));
 }

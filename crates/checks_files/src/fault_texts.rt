@@ -36,7 +36,6 @@ fn a_missing_entry_and_too_many_modules_have_no_place(rt: HostRuntime) -> Result
 fn the_refusal_of_a_source_has_its_path_and_place(rt: HostRuntime) -> Result<(), Fail> {
     for (fault, words) in [
         (SourceFault::NotUtf8 { place: 3 }, "/a.js:3: not UTF-8"),
-        (SourceFault::NotYet { place: 6 }, "/a.js:6: not built yet"),
         (SourceFault::Json, "/a.js:0: not JSON"),
         (
             SourceFault::TooManyDeps,

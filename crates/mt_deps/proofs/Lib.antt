@@ -1,4 +1,9 @@
-pub mod Numbers
-pub mod SimpleStrings
-pub mod Strings
-pub mod Uses
+pub mod Ascending
+pub mod Cuts
+pub mod Gathers
+pub mod ListSteps
+pub mod Numbered
+pub mod Partners
+pub mod Puts
+pub mod Replaced
+pub mod Steps

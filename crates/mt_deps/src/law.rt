@@ -1,12 +1,15 @@
 //! Laws of the definitions.
-ghost use Rattle.std.specs.Prelude.{◌≡◌, ℕ, List, Ok};
+ghost use Rattle.std.specs.Prelude.{◌≡◌, ◌<◌, ◌^◌, ℕ, IsUtf8, List, Ok, All, length};
 ghost use Rattle.mt_tokens.specs.Deps.{Deps, deps_of};
-ghost use Rattle.mt_tokens.specs.Tokens.{Covers};
+ghost use Rattle.mt_tokens.specs.Tokens.{Covers, IsCut};
 ghost use Rattle.mt_tokens.specs.declared.token.Token.{Token};
-ghost use Rattle.mt_deps.specs.Uses.{AreInOrder};
+ghost use Rattle.mt_deps.specs.Uses.{AreAscending, IsMarkText, IsUseCut};
 
-/// Does nothing, and carries a law: the ranges of a text that are replaced come one after another and do not overlap, where
-/// the tokens are those of the text.
+/// Does nothing, and carries a law: where the tokens are those of the text, the ranges that are replaced begin one after
+/// another. In UTF-8 each begins and ends between characters, and what takes its place is UTF-8, as are the names that are
+/// exported.
 pub fn law_of_uses()
-    ensures in_order { (text : List ℕ) (ts : List Token) (found : Deps) → Covers 0 text ts → deps_of text ts ≡ Ok found → AreInOrder 0 found.uses }
+    ensures ascending { (text : List ℕ) (ts : List Token) (found : Deps) → Covers 0 (length text) ts → deps_of text ts ≡ Ok found → AreAscending 0 found.uses }
+    ensures cut { (text : List ℕ) (ts : List Token) (found : Deps) → IsUtf8 text → All (IsCut text) ts → deps_of text ts ≡ Ok found → length found.deps < 2 ^ 64 → All (IsUseCut text) found.uses }
+    ensures marks { (text : List ℕ) (ts : List Token) (found : Deps) → IsUtf8 text → All (IsCut text) ts → deps_of text ts ≡ Ok found → All IsMarkText found.marks }
 {}

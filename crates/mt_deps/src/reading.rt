@@ -1,81 +1,20 @@
-//! The dependencies of a text, in one reading of its tokens.
-ghost use Rattle.std.specs.Prelude.{◌≡◌, ◌++◌, ◌∷◌, [], ◌⊎◌, true, Err, IfOk, OnOk, codes};
-ghost use Rattle.std.specs.Fmt.{decimal};
-ghost use Rattle.mt_tokens.specs.Deps.{seen, is_simple_string, between_quotes, dependency, with_first, replaced, number_of, deps_of};
-ghost use Rattle.mt_tokens.specs.declared.source.DepKind.TheVariants.{Require};
-ghost use Rattle.mt_deps.specs.Numbers.{Numbers};
+//! What a text requires, imports and exports, in one reading of its tokens.
+ghost use Rattle.std.specs.Prelude.{◌≡◌, ◌⊎◌, ◌<◌, length, None, All, Err, IfOk};
+ghost use Rattle.mt_tokens.specs.Deps.{deps_of, gathered_or};
+ghost use Rattle.mt_tokens.specs.Readings.{found_at};
+ghost use Rattle.mt_tokens.specs.Shields.{no_cover};
+ghost use Rattle.mt_tokens.specs.Tokens.{IsCut};
+ghost use Rattle.mt_tokens.specs.Words.{seen};
+ghost use Rattle.mt_deps.specs.Cut.{AreCut};
 
 use crate::DepList;
-use crate::require_calls::read_site;
-use mt_containers::List;
-use mt_tokens::{Dep, DepFault, DepKind, Text, TextMap, Token, TokenKind, TokenList, Use};
+use crate::calls::read_at;
+use crate::gathering::Gathering;
+use crate::shields::next_cover;
+use crate::sites::{Site, next_depth};
+use crate::spans::read_spans;
+use mt_tokens::{Cover, DepFault, Head, Token, TokenKind, TokenList};
 use std::alloc::{AllocError, Global};
-
-/// What is between the quotes.
-fn string_name(text: &str, string: Token) -> &str
-    requires { is_simple_string text.now string ≡ true }
-    ensures { result.now ≡ between_quotes text.now string }
-{
-    let start = string.start as usize + 1;
-    let end = string.end as usize - 1;
-    &text[start..end]
-}
-
-/// The number of a required name among the dependencies, to which it is added if it is new.
-fn number(
-    alloc: Global,
-    deps: &mut List<Dep>,
-    numbers: &mut TextMap<usize>,
-    name: &str,
-    place: u32,
-) -> Result<usize, AllocError>
-    requires { Numbers numbers.old deps.old }
-    ensures deps { OnOk result (deps.new ≡ with_first deps.old (record { name = name.now; kind = Require; place = place })) }
-    ensures numbers { OnOk result (Numbers numbers.new deps.new) }
-    ensures number { IfOk result (λ n. n ≡ number_of name.now Require deps.new) }
-{
-    let key = Text::from_str(alloc, name)?;
-    if let Some(number) = numbers.get(&key) {
-        return Ok(*number);
-    }
-    let number = deps.len();
-    let name = key.clone()?;
-    let kind = DepKind::Require;
-    deps.push(Dep { name, kind, place })?;
-    numbers.insert(key, number)?;
-    Ok(number)
-}
-
-/// What takes the place of a string whose dependency has this number.
-fn map_entry(alloc: Global, number: usize) -> Result<Text, AllocError>
-    ensures { IfOk result (λ text. text ≡ codes "dependencyMap[" ++ decimal number ++ codes "]") }
-{
-    let string = format!(in alloc; "dependencyMap[{number}]")?;
-    Ok(Text::from_string(string))
-}
-
-/// Adds a required string.
-fn add(
-    alloc: Global,
-    text: &str,
-    string: Token,
-    deps: &mut List<Dep>,
-    uses: &mut List<Use>,
-    numbers: &mut TextMap<usize>,
-) -> Result<(), AllocError>
-    requires simple { is_simple_string text.now string ≡ true }
-    requires numbers { Numbers numbers.old deps.old }
-    ensures deps { OnOk result (deps.new ≡ with_first deps.old (dependency text.now string)) }
-    ensures numbers { OnOk result (Numbers numbers.new deps.new) }
-    ensures uses { OnOk result (uses.new ≡ uses.old ++ replaced text.now deps.new string ∷ []) }
-{
-    let Token { start, end, .. } = string;
-    let name = string_name(text, string);
-    let number = number(alloc, deps, numbers, name, start)?;
-    let text = map_entry(alloc, number)?;
-    uses.push(Use { start, end, text })?;
-    Ok(())
-}
 
 /// The tokens that are neither blanks nor comments.
 fn seen_tokens(alloc: Global, tokens: &[Token]) -> Result<Vec<Token>, AllocError>
@@ -88,31 +27,51 @@ fn seen_tokens(alloc: Global, tokens: &[Token]) -> Result<Vec<Token>, AllocError
         .collect(alloc)
 }
 
-/// What is found in a text with these tokens: each string that a plain `require` calls with is a dependency, by its name.
-/// Refused at the first plain `import` or `export`, or plain `require` that isn't a call with one simple string; a word is
-/// plain where the token before it isn't `.` or `?.`. Takes time of n log n in the number of the tokens.
-#[tactic(auto, unfolding(mt_tokens::specs::Deps::deps_of))]
+/// What is found at these tokens, of which none is a blank or a comment.
+fn read_seen(alloc: Global, text: &str, tokens: &[Token]) -> Result<DepList, DepFault>
+    requires few { length tokens.now < 4294967296 }
+    requires cut { AreCut text.now tokens.now }
+    ensures exact { (result ≡ Err DepFault.NoMemory) ⊎ (result ≡ gathered_or text.now (found_at text.now no_cover None 0 tokens.now)) }
+{
+    let bytes = text.as_bytes();
+    let mut spans = read_spans(alloc, bytes, tokens)?;
+    let mut gathering = Gathering::new(alloc);
+    let mut cover = Cover {
+        head: Head::Elsewhere,
+        count: 0,
+    };
+    let mut before = None;
+    let mut depth = 0usize;
+    let mut rest = tokens;
+    while let Some((here, after)) = rest.split_first() {
+        let site = Site {
+            before,
+            depth,
+            here: *here,
+            after,
+        };
+        let shielded = cover.count > 0;
+        let found = read_at(alloc, text, shielded, &site)?;
+        gathering.add_any(alloc, text, found)?;
+        let span = spans.pop();
+        cover = next_cover(bytes, cover, span, *here);
+        before = Some(*here);
+        depth = next_depth(bytes, depth, *here);
+        rest = after;
+    }
+    Ok(gathering.into_list())
+}
+
+/// What is found in a text with these tokens: what it requires, imports and exports, and the ranges of it that a bundle
+/// replaces. Each token begins and ends between characters, as those that `tokens` answers do.
+///
+/// Refused at the first `import` or `export` that begins no form of one, or where memory runs out. Takes time of n log n in
+/// the number of the tokens.
+#[tactic(auto, using(crate::proofs::Steps::seen_few, crate::proofs::Replaced::seen_all), unfolding(mt_tokens::specs::Deps::deps_of))]
 pub fn deps(alloc: Global, text: &str, tokens: &TokenList) -> Result<DepList, DepFault>
+    requires cut { All (IsCut text.now) tokens.now }
     ensures exact { (result ≡ Err DepFault.NoMemory) ⊎ (result ≡ deps_of text.now tokens.now) }
 {
     let seen = seen_tokens(alloc, tokens.as_slice())?;
-    let mut deps = List::new(alloc);
-    let mut uses = List::new(alloc);
-    let mut numbers = TextMap::new(alloc);
-    let mut before = None;
-    let mut rest = seen.as_slice();
-    while let Some((here, after)) = rest.split_first() {
-        if let Some(string) = read_site(text.as_bytes(), before, *here, after)? {
-            add(alloc, text, string, &mut deps, &mut uses, &mut numbers)?;
-        }
-        before = Some(*here);
-        rest = after;
-    }
-    Ok(DepList {
-        deps,
-        uses,
-        marks: List::new(alloc),
-        exporting: false,
-        dynamic: 0,
-    })
+    read_seen(alloc, text, seen.as_slice())
 }

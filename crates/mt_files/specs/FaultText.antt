@@ -46,7 +46,6 @@ at_place path place text = path ++ (codes ":" ++ (decimal place ++ (codes ": " +
 abbrev pub source_text : List ℕ → SourceFault → List ℕ
 source_text path (source.NotUtf8 place) = at_place path place (codes "not UTF-8")
 source_text path (source.Syntax place why) = at_place path place (codes "syntax: " ++ syntax_text why)
-source_text path (source.NotYet place) = at_place path place (codes "not built yet")
 source_text path source.Json = at_place path 0 (codes "not JSON")
 source_text path source.TooManyDeps = at_place path 0 (codes "more than 4096 dependencies")
 source_text path source.NoMemory = codes "out of memory"

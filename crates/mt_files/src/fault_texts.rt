@@ -116,7 +116,6 @@ fn source_fault(alloc: Global, path: &Path, fault: SourceFault) -> Result<String
     match fault {
         SourceFault::NotUtf8 { place } => place_text(alloc, path, place, "not UTF-8"),
         SourceFault::Syntax { place, why } => syntax_fault(alloc, path, place, why),
-        SourceFault::NotYet { place } => place_text(alloc, path, place, "not built yet"),
         SourceFault::Json => place_text(alloc, path, 0, "not JSON"),
         SourceFault::TooManyDeps => place_text(alloc, path, 0, "more than 4096 dependencies"),
         SourceFault::NoMemory => String::from_str(alloc, "out of memory"),

@@ -1,12 +1,21 @@
 -- The lengths of comments, numbers and strings are within the text.
-use Rattle.std.proofs.Common.{ℕ, suc, Bool, true, false, ◌≡◌, ◌==◌, ◌<◌, ◌≤◌, ◌+◌, ◌-◌, ◌&&◌, ◌||◌, List, [], ◌∷◌, length, take, drop, get_or, arith, refl, sym, ap, cond, eqb, nat_lt, Option, Some, None}
+use Rattle.std.proofs.Common.{ℕ, suc, Bool, true, false, ◌≡◌, ◌==◌, ◌<◌, ◌≤◌, ◌+◌, ◌-◌, ◌&&◌, ◌||◌, inl, inr, subst, List, [], ◌∷◌, length, take, drop, get_or, arith, refl, sym, ap, ◌∙◌, cond, eqb, nat_lt, Option, Some, None}
 use Rattle.std.specs.Option.{option_map, IfSome}
 use Rattle.std.specs.List.{starts_with, prefix_len}
 use Rattle.std.proofs.lemmas.List.{length-take, length-drop, get_or_past}
 use Rattle.std.proofs.lemmas.List.Sums.{prefix_len-le-length}
-use Rattle.std.proofs.lemmas.Bool.Decides.{nat_tests, Decides-eqb}
+use Rattle.std.proofs.lemmas.Bool.Decides.{leb_tells, nat_tests, Decides-eqb}
+use Rattle.std.proofs.lemmas.Bool.{ltb-true}
 use Rattle.std.proofs.lemmas.Slice.Eq.{slice_eq-Decides}
-use Rattle.mt_tokens.specs.Classes.{is_digit, is_part}
+use Rattle.mt_tokens.specs.Classes.{char_len, first_char, is_digit, is_hex_digit, is_number_part, is_part, is_space, is_start}
+use Rattle.mt_tokens.specs.Names.{code_len, name_escape_len, name_len, private_len, run_after, run_len, start_len, unit_len}
+use Rattle.mt_tokens.specs.Regexes.{body_len, ends_body, is_class_after}
+use Rattle.mt_tokens.specs.Templates.{opens_hole, piece_len}
+use Rattle.mt_tokens.specs.Classes.{is_free}
+use Rattle.mt_tokens.specs.declared.names.RunOf.{RunOf}
+use Rattle.mt_tokens.specs.declared.names.RunOf.TheVariants.{Blanks, NameParts, Flags}
+use Rattle.mt_tokens.proofs.Characters.{first_char_short}
+use Rattle.unicode_ident.proofs.IdentLemmas.{is_xid_start-ascii, is_xid_continue-ascii}
 use Rattle.mt_tokens.specs.Comments.{begins_line_end, line_len, block_len, begins_comment}
 use Rattle.mt_tokens.specs.Numbers.{begins_base, begins_number, is_digit_part, fraction_len, sign_len, exponent_len, and_after, number_len}
 use Rattle.mt_tokens.specs.Strings.{closing_len, escape_len}
@@ -25,6 +34,15 @@ map_within (Some n) m h = omega arith
 pub if_within : (test : Bool) (x y : Option ℕ) (m : ℕ) → (test ≡ true → IfSome x (λ n. n ≤ m)) → IfSome y (λ n. n ≤ m) → IfSome (cond test x y) (λ n. n ≤ m)
 if_within true x y m f g = f refl
 if_within false x y m f g = g
+
+-- the same of a length that is not 0
+pub map_inside : (x : Option ℕ) (m : ℕ) → IfSome x (λ n. (0 < n) × (n ≤ m)) → IfSome (option_map (λ n. n + 1) x) (λ n. (0 < n) × (n ≤ suc m))
+map_inside None m h = tt
+map_inside (Some n) m h = let w = h.1 in (omega arith, omega (arith, w))
+
+pub if_inside : (test : Bool) (x y : Option ℕ) (m : ℕ) → (test ≡ true → IfSome x (λ n. (0 < n) × (n ≤ m))) → IfSome y (λ n. (0 < n) × (n ≤ m)) → IfSome (cond test x y) (λ n. (0 < n) × (n ≤ m))
+if_inside true x y m f g = f refl
+if_inside false x y m f g = g
 
 -- the end of a comment is within the text
 pub block_within : (rest : List ℕ) → IfSome (block_len rest) (λ n. n ≤ length rest)
@@ -123,14 +141,14 @@ decimal_some b rest tail false e h =
 
 pub number_within : (b : ℕ) (rest : List ℕ) → begins_number (b ∷ rest) ≡ true → (0 < number_len (b ∷ rest)) × (number_len (b ∷ rest) ≤ length (b ∷ rest))
 number_within b rest h =
-    let part = prefix_len is_part in
+    let part = prefix_len is_number_part in
     pick_within (begins_base (b ∷ rest)) (part (drop 2 (b ∷ rest)) + 2) (and_after (prefix_len is_digit_part) (and_after fraction_len (and_after exponent_len part)) (b ∷ rest)) (length (b ∷ rest))
     (λ t.
     let l = base_within b rest t in
-    (omega arith, omega (arith, l, prefix_len-le-length is_part (drop 2 (b ∷ rest)), length-drop 2 (b ∷ rest)))) (
+    (omega arith, omega (arith, l, prefix_len-le-length is_number_part (drop 2 (b ∷ rest)), length-drop 2 (b ∷ rest)))) (
       decimal_some b rest (and_after exponent_len part) (is_digit_part b) refl h,
       and_after_within (prefix_len is_digit_part) (and_after fraction_len (and_after exponent_len part)) (prefix_len-le-length is_digit_part)
-          (and_after_within fraction_len (and_after exponent_len part) fraction_within (and_after_within exponent_len part exponent_within (prefix_len-le-length is_part)))
+          (and_after_within fraction_len (and_after exponent_len part) fraction_within (and_after_within exponent_len part exponent_within (prefix_len-le-length is_number_part)))
           (b ∷ rest),
     )
 
@@ -140,3 +158,135 @@ block_end rest n e = let w = block_within rest in rw (sym e) at w
 
 pub closing_end : (quote : ℕ) (rest : List ℕ) (n : ℕ) → Some n ≡ closing_len quote 0 rest → n ≤ length rest
 closing_end quote rest n e = let w = closing_within quote 0 rest in rw (sym e) at w
+
+-- ---- characters, escapes and runs
+
+-- a byte other than 0 is within the text
+pub byte_within : (r : List ℕ) (at v : ℕ) → get_or r at 0 ≡ v → 0 < v → at < length r
+byte_within r at v e p =
+    let past : length r ≤ at → get_or r at 0 ≡ 0 = get_or_past r at 0 in
+    grind arith
+
+pub first_of : (a b c : Bool) → (a && b && c) ≡ true → a ≡ true
+first_of true b c h = refl
+first_of false b c h = absurd (cc)
+
+pub third_of : (a b c : Bool) → (a && b && c) ≡ true → c ≡ true
+third_of true true c h = h
+third_of true false c h = absurd (cc)
+third_of false b c h = absurd (cc)
+
+pub either_within : (test : Bool) (x y n : ℕ) → x ≤ n → y ≤ n → cond test x y ≤ n
+either_within true x y n p q = p
+either_within false x y n p q = q
+
+-- a character of a class that hasn't 0 isn't cut off
+pub class_within : (class : ℕ → Bool) (rest : List ℕ) (other : ℕ) → class 0 ≡ false → other ≤ length rest → cond (class (first_char rest)) (char_len rest) other ≤ length rest
+class_within class rest other z o = elim (leb_tells (char_len rest) (length rest)) [
+  | inl p ↦ either_within (class (first_char rest)) (char_len rest) other (length rest) p.1 o
+  | inr p ↦
+      let f : class (first_char rest) ≡ false = ap class (first_char_short rest p.1) ∙ z in
+      subst (λ t. cond t (char_len rest) other ≤ length rest) (sym f) o
+]
+
+pub char_fits : (class : ℕ → Bool) (rest : List ℕ) → class 0 ≡ false → class (first_char rest) ≡ true → char_len rest ≤ length rest
+char_fits class rest z t = elim (leb_tells (char_len rest) (length rest)) [
+  | inl p ↦ p.1
+  | inr p ↦ absurd (let f : class (first_char rest) ≡ false = ap class (first_char_short rest p.1) ∙ z in let g : true ≡ false = sym t ∙ f in cc)
+]
+
+pub start_zero : is_start 0 ≡ false
+start_zero = rw (is_xid_start-ascii 0 (omega arith)) refl
+
+pub part_zero : is_part 0 ≡ false
+part_zero = rw (is_xid_start-ascii 0 (omega arith), is_xid_continue-ascii 0 (omega arith)) refl
+
+pub code_within : (rest : List ℕ) → code_len rest ≤ length rest
+code_within rest =
+    let n = prefix_len is_hex_digit (drop 2 rest) in
+    let m = prefix_len is_hex_digit (drop 1 rest) in
+    either_within (get_or rest 1 0 == 123) (cond (nat_lt 0 n && nat_lt n 7 && get_or rest (n + 2) 0 == 125) (n + 3) 0) (cond (nat_lt 3 m) 5 0) (length rest)
+    (choose_within (nat_lt 0 n && nat_lt n 7 && get_or rest (n + 2) 0 == 125) (n + 3) (length rest)
+    (λ h.
+    let t = third_of (nat_lt 0 n) (nat_lt n 7) (get_or rest (n + 2) 0 == 125) h in
+    let e : get_or rest (n + 2) 0 ≡ 125 = grind (arith, nat_tests) in
+    let w = byte_within rest (n + 2) 125 e (omega arith) in omega arith))
+    (choose_within (nat_lt 3 m) 5 (length rest)
+    (λ h.
+    let t = ltb-true 3 m h in
+    omega (arith, t, prefix_len-le-length is_hex_digit (drop 1 rest), length-drop 1 rest)))
+
+pub escape_within : (rest : List ℕ) → name_escape_len rest ≤ length rest
+escape_within rest =
+    let len = code_len (drop 1 rest) in
+    choose_within (get_or rest 0 0 == 92 && get_or rest 1 0 == 117 && nat_lt 0 len) (len + 1) (length rest)
+    (λ h.
+    let t = first_of (get_or rest 0 0 == 92) (get_or rest 1 0 == 117) (nat_lt 0 len) h in
+    let e : get_or rest 0 0 ≡ 92 = grind (arith, nat_tests) in
+    let w = byte_within rest 0 92 e (omega arith) in
+    omega (arith, w, code_within (drop 1 rest), length-drop 1 rest))
+
+pub start_within : (rest : List ℕ) → start_len rest ≤ length rest
+start_within rest = class_within is_start rest (name_escape_len rest) start_zero (escape_within rest)
+
+pub unit_within : (of : RunOf) (rest : List ℕ) → unit_len of rest ≤ length rest
+unit_within Blanks rest = class_within is_space rest 0 refl (omega arith)
+unit_within NameParts rest = class_within is_part rest (name_escape_len rest) part_zero (escape_within rest)
+unit_within Flags rest = class_within is_part rest 0 part_zero (omega arith)
+
+run_after_within : (of : RunOf) (taken : ℕ) (rest : List ℕ) → run_after of taken rest ≤ length rest
+run_after_within of taken [] = omega arith
+run_after_within of taken (b ∷ rest) =
+    let one = run_after_within of (taken - 1) rest in
+    let next = run_after_within of (unit_len of (b ∷ rest) - 1) rest in
+    either_within (nat_lt 0 taken) (run_after of (taken - 1) rest + 1) (cond (nat_lt 0 (unit_len of (b ∷ rest))) (run_after of (unit_len of (b ∷ rest) - 1) rest + 1) 0) (length (b ∷ rest))
+    (omega arith)
+    (either_within (nat_lt 0 (unit_len of (b ∷ rest))) (run_after of (unit_len of (b ∷ rest) - 1) rest + 1) 0 (length (b ∷ rest)) (omega arith) (omega arith))
+
+pub runs_within : (of : RunOf) (rest : List ℕ) → run_len of rest ≤ length rest
+runs_within of rest = run_after_within of 0 rest
+
+pub name_within : (rest : List ℕ) → name_len rest ≤ length rest
+name_within rest =
+    let s = start_len rest in
+    choose_within (nat_lt 0 s) (s + run_len NameParts (drop s rest)) (length rest)
+    (λ _. omega (arith, start_within rest, runs_within NameParts (drop s rest), length-drop s rest))
+
+pub private_within : (rest : List ℕ) → private_len rest ≤ length rest
+private_within rest =
+    let n = name_len (drop 1 rest) in
+    choose_within (get_or rest 0 0 == 35 && nat_lt 0 n) (n + 1) (length rest)
+    (λ h.
+    let p = ltb-true 0 n (and_right (get_or rest 0 0 == 35) (nat_lt 0 n) h) in
+    omega (arith, p, name_within (drop 1 rest), length-drop 1 rest))
+
+-- ---- pieces of templates, and regular expressions
+
+hole_within : (taken : Bool) (b : ℕ) (rest : List ℕ) → opens_hole taken b (get_or rest 0 0) ≡ true → 2 ≤ length (b ∷ rest)
+hole_within taken b rest h =
+    let t = and_right (is_free taken b 36) (get_or rest 0 0 == 123) h in
+    let e : get_or rest 0 0 ≡ 123 = grind (arith, nat_tests) in
+    let w = byte_within rest 0 123 e (omega arith) in
+    omega (arith, w)
+
+pub piece_within : (taken : Bool) (rest : List ℕ) → IfSome (piece_len taken rest) (λ n. (0 < n) × (n ≤ length rest))
+piece_within taken [] = tt
+piece_within taken (b ∷ rest) =
+    let some : 1 ≤ length (b ∷ rest) = omega arith in
+    if_inside (is_free taken b 96) (Some 1) _ (length (b ∷ rest)) (λ _. (omega arith, some))
+    (if_inside (opens_hole taken b (get_or rest 0 0)) (Some 2) _ (length (b ∷ rest)) (λ h. (omega arith, hole_within taken b rest h))
+    (map_inside (piece_len (is_free taken b 92) rest) (length rest) (piece_within (is_free taken b 92) rest)))
+
+pub body_within : (in_class taken : Bool) (rest : List ℕ) → IfSome (body_len in_class taken rest) (λ n. (0 < n) × (n ≤ length rest))
+body_within in_class taken [] = tt
+body_within in_class taken (b ∷ rest) =
+    let some : 1 ≤ length (b ∷ rest) = omega arith in
+    if_inside (begins_line_end (b ∷ rest)) None _ (length (b ∷ rest)) (λ _. tt)
+    (if_inside (ends_body in_class taken b) (Some 1) _ (length (b ∷ rest)) (λ _. (omega arith, some))
+    (map_inside (body_len (is_class_after in_class taken b) (is_free taken b 92) rest) (length rest) (body_within (is_class_after in_class taken b) (is_free taken b 92) rest)))
+
+pub piece_end : (rest : List ℕ) (n : ℕ) → Some n ≡ piece_len false rest → (0 < n) × (n ≤ length rest)
+piece_end rest n e = let w = piece_within false rest in rw (sym e) at w
+
+pub body_end : (rest : List ℕ) (n : ℕ) → Some n ≡ body_len false false rest → (0 < n) × (n ≤ length rest)
+body_end rest n e = let w = body_within false false rest in rw (sym e) at w

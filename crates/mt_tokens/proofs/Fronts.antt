@@ -1,35 +1,29 @@
 -- The token that a text begins with is not empty, and within the text.
-use Rattle.std.proofs.Common.{Bool, arith, ◌≡◌, ◌==◌, ◌<◌, ◌≤◌, ◌+◌, ◌-◌, true, false, nat_lt, cond, ℕ, List, [], ◌∷◌, length, ap, refl, take, drop, Result, Ok, Err, Option, Some, None, eqb, sym}
-use Rattle.std.specs.List.{prefix_len, list_all, starts_with}
+use Rattle.std.proofs.Common.{Bool, arith, ◌≡◌, ◌==◌, ◌<◌, ◌≤◌, ◌+◌, ◌-◌, true, false, nat_lt, cond, ℕ, List, [], ◌∷◌, length, refl, get_or, take, drop, Result, Ok, Err, Option, Some, None, eqb, sym}
+use Rattle.std.specs.List.{list_all, starts_with}
 use Rattle.std.specs.Result.{IfOk}
 use Rattle.std.specs.Cmp.Lexicographic.{pointwise}
 use Rattle.mt_tokens.specs.Front.{front_of}
 use Rattle.mt_tokens.specs.Comments.{begins_comment, comment_of, block_len}
 use Rattle.mt_tokens.specs.Numbers.{begins_number}
 use Rattle.mt_tokens.specs.Strings.{string_of, closing_len}
-use Rattle.mt_tokens.proofs.Extents.{starts_within, block_within, closing_within, comment_some, line_within, number_within}
-use Rattle.mt_tokens.specs.declared.token.TokenKind.TheVariants.{Comment, Str}
-use Rattle.mt_tokens.specs.declared.token.TokenFault.TheVariants.{UnclosedComment, UnclosedString}
+use Rattle.mt_tokens.proofs.Extents.{starts_within, block_within, body_within, closing_within, comment_some, line_within, name_within, number_within, piece_within, private_within, runs_within}
+use Rattle.mt_tokens.specs.declared.token.TokenKind.TheVariants.{Comment, Regex, Str}
+use Rattle.mt_tokens.specs.declared.token.TokenFault.TheVariants.{UnclosedComment, UnclosedRegex, UnclosedString, UnclosedTemplate}
 use Rattle.std.specs.Option.{option_map_or, IfSome}
-use Rattle.mt_tokens.specs.Classes.{is_part, is_space, is_start, is_quote, is_not_yet}
+use Rattle.mt_tokens.specs.Classes.{is_quote}
+use Rattle.mt_tokens.specs.Names.{name_len, private_len, run_len}
+use Rattle.mt_tokens.specs.Regexes.{begins_regex, body_len, regex_of}
+use Rattle.mt_tokens.specs.Templates.{begins_piece, piece_kind, piece_len, piece_of}
+use Rattle.mt_tokens.specs.declared.front.Before.{Before}
+use Rattle.mt_tokens.specs.declared.names.RunOf.TheVariants.{Blanks, Flags}
 use Rattle.mt_tokens.specs.Punctuators.{punct_len, is_among, of_four, of_three, of_two, of_one, is_choice_of_number}
 use Rattle.mt_tokens.specs.declared.token.TokenKind.{TokenKind}
 use Rattle.mt_tokens.specs.declared.token.TokenFault.{TokenFault}
 use Rattle.std.proofs.lemmas.List.{length-take, length-drop}
-use Rattle.std.proofs.lemmas.List.Sums.{prefix_len-le-length}
 use Rattle.std.proofs.lemmas.Bool.Decides.{nat_tests, Decides-eqb}
-use borrow.Author.Tests.{ltb-true}
+use Rattle.std.proofs.lemmas.Bool.{ltb-true}
 use Rattle.std.proofs.lemmas.Slice.Eq.{slice_eq-Decides}
-
--- a run whose first byte is of the class
-pub run_within : (p : ℕ → Bool) (b : ℕ) (rest : List ℕ) → p b ≡ true → (0 < prefix_len p (b ∷ rest)) × (prefix_len p (b ∷ rest) ≤ length (b ∷ rest))
-run_within p b rest h =
-    let e : prefix_len p (b ∷ rest) ≡ 1 + prefix_len p rest = ap (λ x. cond x (1 + prefix_len p rest) 0) h in
-    (omega (arith, e), prefix_len-le-length p (b ∷ rest))
-
--- what a name begins with may be a part of it
-pub start_is_part : (b : ℕ) → is_start b ≡ true → is_part b ≡ true
-start_is_part b h = rw h refl
 
 -- a text among texts of one length has that length
 pub among_length : (n : ℕ) (texts : List (List ℕ)) (text : List ℕ) → list_all (λ t. length t == n) texts ≡ true → is_among texts text ≡ true → length text ≡ n
@@ -78,7 +72,7 @@ first_kind rest true here after f g = f refl
 first_kind rest false here after f g = g
 
 -- a length that is found, of a kind, or a fault
-pub found_within : (rest : List ℕ) (kind : TokenKind) (more : ℕ) (x : Option ℕ) (e : TokenFault) → 0 < more → IfSome x (λ n. n + more ≤ length rest) → IsWithin rest (option_map_or (λ n. Ok (kind, n + more)) x (Err e))
+pub found_within : (rest : List ℕ) (kind : ℕ → TokenKind) (more : ℕ) (x : Option ℕ) (e : TokenFault) → 0 < more → IfSome x (λ n. n + more ≤ length rest) → IsWithin rest (option_map_or (λ n. Ok (kind n, n + more)) x (Err e))
 found_within rest kind more None e m h = tt
 found_within rest kind more (Some n) e m h = (omega arith, h)
 
@@ -93,32 +87,58 @@ comment_within place b rest h =
     first_kind (b ∷ rest) (starts_with eqb (b ∷ rest) (47 ∷ 42 ∷ [])) _ _
     (λ t.
     let l = starts_within (b ∷ rest) (47 ∷ 42 ∷ []) t in
-    found_within (b ∷ rest) Comment 2 block (UnclosedComment place) (omega arith)
+    found_within (b ∷ rest) (λ _. Comment) 2 block (UnclosedComment place) (omega arith)
     (found_after block (length (drop 2 (b ∷ rest))) 2 (length (b ∷ rest)) (block_within (drop 2 (b ∷ rest))) (omega (arith, l, length-drop 2 (b ∷ rest)))))
     (comment_some place b rest h, line_within (b ∷ rest))
 
 pub string_within : (place b : ℕ) (rest : List ℕ) → IsWithin (b ∷ rest) (string_of place (b ∷ rest))
 string_within place b rest =
-    found_within (b ∷ rest) Str 1 (closing_len b 0 rest) (UnclosedString place) (omega arith)
+    found_within (b ∷ rest) (λ _. Str) 1 (closing_len b 0 rest) (UnclosedString place) (omega arith)
     (found_after (closing_len b 0 rest) (length rest) 1 (length (b ∷ rest)) (closing_within b 0 rest) (omega arith))
 
+inside_after : (x : Option ℕ) (k m n : ℕ) → IfSome x (λ i. (0 < i) × (i ≤ k)) → k + m ≤ n → IfSome x (λ i. i + m ≤ n)
+inside_after None k m n h l = tt
+inside_after (Some i) k m n h l = let w = h.1 in omega (arith, w)
+
+pub template_within : (place b : ℕ) (rest : List ℕ) → IsWithin (b ∷ rest) (piece_of place (b ∷ rest))
+template_within place b rest =
+    found_within (b ∷ rest) (λ n. piece_kind b (get_or rest (n - 1) 0)) 1 (piece_len false rest) (UnclosedTemplate place) (omega arith)
+    (inside_after (piece_len false rest) (length rest) 1 (length (b ∷ rest)) (piece_within false rest) (omega arith))
+
+regex_by : (place b : ℕ) (rest : List ℕ) (x : Option ℕ) → IfSome x (λ n. (0 < n) × (n ≤ length rest)) → IsWithin (b ∷ rest) (option_map_or (λ n. Ok (Regex, n + 1 + run_len Flags (drop (n + 1) (b ∷ rest)))) x (Err (UnclosedRegex place)))
+regex_by place b rest None h = tt
+regex_by place b rest (Some n) h =
+    let w = h.1 in
+    let r = runs_within Flags (drop (n + 1) (b ∷ rest)) in
+    let d = length-drop (n + 1) (b ∷ rest) in
+    (omega arith, omega (arith, w, r, d))
+
+pub regex_within : (place b : ℕ) (rest : List ℕ) → IsWithin (b ∷ rest) (regex_of place (b ∷ rest))
+regex_within place b rest = regex_by place b rest (body_len false false rest) (body_within false false rest)
+
 -- whatever the token is
-pub front_within : (place : ℕ) (rest : List ℕ) → IsWithin rest (front_of place rest)
-front_within place [] = tt
-front_within place (b ∷ rest) =
-    first_kind (b ∷ rest) (is_space b) _ _ (run_within is_space b rest)
+pub front_within : (before : Before) (place : ℕ) (rest : List ℕ) → IsWithin rest (front_of before place rest)
+front_within before place [] = tt
+front_within before place (b ∷ rest) =
+    first_kind (b ∷ rest) (nat_lt 0 (run_len Blanks (b ∷ rest))) _ _ (λ h. (ltb-true 0 (run_len Blanks (b ∷ rest)) h, runs_within Blanks (b ∷ rest)))
     (first_kind (b ∷ rest) (begins_comment place (b ∷ rest)) _ _ (comment_within place b rest)
-    (first_kind (b ∷ rest) (is_start b) _ _ (λ h. run_within is_part b rest (start_is_part b h))
+    (first_kind (b ∷ rest) (nat_lt 0 (name_len (b ∷ rest))) _ _ (λ h. (ltb-true 0 (name_len (b ∷ rest)) h, name_within (b ∷ rest)))
+    (first_kind (b ∷ rest) (nat_lt 0 (private_len (b ∷ rest))) _ _ (λ h. (ltb-true 0 (private_len (b ∷ rest)) h, private_within (b ∷ rest)))
     (first_kind (b ∷ rest) (begins_number (b ∷ rest)) _ _ (number_within b rest)
     (first_kind (b ∷ rest) (is_quote b) _ _ (λ _. string_within place b rest)
-    (first_kind (b ∷ rest) (nat_lt 0 (punct_len (b ∷ rest))) _ _ (λ h. (ltb-true 0 (punct_len (b ∷ rest)) h, punct_within b rest))
-    (first_kind (b ∷ rest) (is_not_yet b) _ _ (λ _. tt) tt))))))
+    (first_kind (b ∷ rest) (begins_piece before.in_template b) _ _ (λ _. template_within place b rest)
+    (first_kind (b ∷ rest) (begins_regex before.operand b) _ _ (λ _. regex_within place b rest)
+    (first_kind (b ∷ rest) (nat_lt 0 (punct_len (b ∷ rest))) _ _ (λ h. (ltb-true 0 (punct_len (b ∷ rest)) h, punct_within b rest)) tt))))))))
 
 -- the token at a place ends after it, and within the text
-pub front_ends : (place : ℕ) (text : List ℕ) (kind : TokenKind) (n : ℕ) → place ≤ length text → Ok (kind, n) ≡ front_of place (take (length text - place) (drop place text)) → (place < place + n) × (place + n ≤ length text)
-front_ends place text kind n h e =
+pub front_ends : (before : Before) (place : ℕ) (text : List ℕ) (kind : TokenKind) (n : ℕ) → place ≤ length text → Ok (kind, n) ≡ front_of before place (take (length text - place) (drop place text)) → (place < place + n) × (place + n ≤ length text)
+front_ends before place text kind n h e =
     let rest = take (length text - place) (drop place text) in
-    let w = front_within place rest in
+    let w = front_within before place rest in
     let l : (0 < n) × (n ≤ length rest) = rw (sym e) at w in
     let t : length rest ≤ length text - place = omega (arith, length-take (length text - place) (drop place text)) in
     (omega arith, omega arith)
+
+-- a token is not empty, and within the rest of the text
+pub front_fits : (before : Before) (place : ℕ) (rest : List ℕ) (kind : TokenKind) (n : ℕ) → front_of before place rest ≡ Ok (kind, n) → (0 < n) × (n ≤ length rest)
+front_fits before place rest kind n e = let w = front_within before place rest in rw e at w

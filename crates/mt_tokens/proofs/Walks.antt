@@ -1,11 +1,14 @@
 -- The walks of comments and strings, a byte at a time.
-use Rattle.std.proofs.Common.{ℕ, true, false, ◌≡◌, ◌<◌, ◌≤◌, ◌+◌, ◌-◌, List, [], ◌∷◌, length, take, drop, get_or, nat_lt, ◌≢◌, arith, refl, sym, ap, ◌∙◌, cond, eqb, Option, Some, None, suc, zero, add-one}
+use Rattle.std.proofs.Common.{ℕ, Bool, true, false, ◌≡◌, ◌<◌, ◌≤◌, ◌+◌, ◌-◌, List, [], ◌∷◌, length, take, drop, get_or, nat_lt, ◌≢◌, arith, refl, sym, ap, ◌∙◌, cond, eqb, Option, Some, None, suc, zero, add-one}
 use Rattle.std.specs.Option.{option_map}
 use Rattle.std.specs.List.{starts_with}
 use Rattle.std.proofs.Math.Seq.{drop-cons}
-use Rattle.std.proofs.lemmas.List.{take_all, drop-drop, length-drop}
+use Rattle.std.proofs.lemmas.List.{drop_all, get_or-drop, take_all, drop-drop, length-drop}
 use Rattle.std.proofs.lemmas.Bool.Decides.{nat_tests}
 use Rattle.mt_tokens.specs.Comments.{begins_line_end, line_len, block_len}
+use Rattle.mt_tokens.specs.Classes.{is_free}
+use Rattle.mt_tokens.specs.Regexes.{body_len, ends_body, is_class_after}
+use Rattle.mt_tokens.specs.Templates.{opens_hole, piece_len}
 use Rattle.mt_tokens.specs.Strings.{closing_len, escape_len}
 
 -- the rest of a text from a place on, as its first byte and those after it
@@ -92,3 +95,97 @@ closing_pass quote rest at b taken h g q l r k =
 -- a `\` takes two bytes at most
 pub escape_few : (rest : List ℕ) → escape_len rest ≤ 2
 escape_few rest = elim (starts_with eqb rest (13 ∷ 10 ∷ [])) as (λ t. cond t 2 1 ≤ 2) [ true ↦ omega arith | false ↦ omega arith ]
+
+-- ---- pieces of templates, and regular expressions
+
+-- a length that is found after some bytes
+pub counted_stop : (x y : Option ℕ) (at k m : ℕ) → x ≡ option_map (λ n. n + at) y → y ≡ Some k → m ≡ at + k → Some m ≡ x
+counted_stop x y at k m e f g =
+    let h : m ≡ k + at = omega arith in
+    ap Some h ∙ sym (e ∙ ap (option_map (λ n. n + at)) f)
+
+-- none is found after some bytes
+pub counted_end : (x y : Option ℕ) (at : ℕ) → x ≡ option_map (λ n. n + at) y → y ≡ None → None ≡ x
+counted_end x y at e f = sym (e ∙ ap (option_map (λ n. n + at)) f)
+
+next_byte : (rest : List ℕ) (at : ℕ) → get_or (drop (at + 1) rest) 0 0 ≡ get_or rest (at + 1) 0
+next_byte rest at = let z : at + 1 + 0 ≡ at + 1 = omega arith in get_or-drop (at + 1) rest 0 0 ∙ ap (λ n. get_or rest n 0) z
+
+piece_front :
+    (taken : Bool) (rest : List ℕ) (at : ℕ) → at < length rest →
+    piece_len taken (drop at rest)
+    ≡ cond (is_free taken (get_or rest at 0) 96) (Some 1)
+    (cond (opens_hole taken (get_or rest at 0) (get_or rest (at + 1) 0)) (Some 2) (option_map (λ n. n + 1) (piece_len (is_free taken (get_or rest at 0) 92) (drop (at + 1) rest))))
+piece_front taken rest at h =
+    let b = get_or rest at 0 in
+    ap (piece_len taken) (drop_front rest at h)
+    ∙ ap (λ x. cond (is_free taken b 96) (Some 1) (cond (opens_hole taken b x) (Some 2) (option_map (λ n. n + 1) (piece_len (is_free taken b 92) (drop (at + 1) rest))))) (next_byte rest at)
+
+pub piece_stop : (taken : Bool) (rest : List ℕ) (at : ℕ) → at < length rest → is_free taken (get_or rest at 0) 96 ≡ true → piece_len taken (drop at rest) ≡ Some 1
+piece_stop taken rest at h e =
+    let later = option_map (λ n. n + 1) (piece_len (is_free taken (get_or rest at 0) 92) (drop (at + 1) rest)) in
+    piece_front taken rest at h ∙ ap (λ t. cond t (Some 1) (cond (opens_hole taken (get_or rest at 0) (get_or rest (at + 1) 0)) (Some 2) later)) e
+
+-- past the test of a backtick
+piece_open :
+    (taken : Bool) (rest : List ℕ) (at : ℕ) → at < length rest → is_free taken (get_or rest at 0) 96 ≡ false →
+    piece_len taken (drop at rest)
+    ≡ cond (opens_hole taken (get_or rest at 0) (get_or rest (at + 1) 0)) (Some 2) (option_map (λ n. n + 1) (piece_len (is_free taken (get_or rest at 0) 92) (drop (at + 1) rest)))
+piece_open taken rest at h e =
+    let later = option_map (λ n. n + 1) (piece_len (is_free taken (get_or rest at 0) 92) (drop (at + 1) rest)) in
+    piece_front taken rest at h ∙ ap (λ t. cond t (Some 1) (cond (opens_hole taken (get_or rest at 0) (get_or rest (at + 1) 0)) (Some 2) later)) e
+
+pub piece_hole :
+    (taken : Bool) (rest : List ℕ) (at : ℕ) → at < length rest → is_free taken (get_or rest at 0) 96 ≡ false → opens_hole taken (get_or rest at 0) (get_or rest (at + 1) 0) ≡ true →
+    piece_len taken (drop at rest) ≡ Some 2
+piece_hole taken rest at h e f =
+    let later = option_map (λ n. n + 1) (piece_len (is_free taken (get_or rest at 0) 92) (drop (at + 1) rest)) in
+    piece_open taken rest at h e ∙ ap (λ t. cond t (Some 2) later) f
+
+pub piece_pass :
+    (taken : Bool) (rest : List ℕ) (at : ℕ) → at < length rest → is_free taken (get_or rest at 0) 96 ≡ false → opens_hole taken (get_or rest at 0) (get_or rest (at + 1) 0) ≡ false →
+    option_map (λ n. n + at) (piece_len taken (drop at rest)) ≡ option_map (λ n. n + (at + 1)) (piece_len (is_free taken (get_or rest at 0) 92) (drop (at + 1) rest))
+piece_pass taken rest at h e f =
+    let later = piece_len (is_free taken (get_or rest at 0) 92) (drop (at + 1) rest) in
+    let p : piece_len taken (drop at rest) ≡ option_map (λ n. n + 1) later = piece_open taken rest at h e ∙ ap (λ t. cond t (Some 2) (option_map (λ n. n + 1) later)) f in
+    ap (option_map (λ n. n + at)) p ∙ counted_on later at 1
+
+body_front :
+    (in_class taken : Bool) (rest : List ℕ) (at : ℕ) → at < length rest →
+    body_len in_class taken (drop at rest)
+    ≡ cond (begins_line_end (drop at rest)) None
+    (cond (ends_body in_class taken (get_or rest at 0)) (Some 1)
+    (option_map (λ n. n + 1) (body_len (is_class_after in_class taken (get_or rest at 0)) (is_free taken (get_or rest at 0) 92) (drop (at + 1) rest))))
+body_front in_class taken rest at h = rw (drop_front rest at h) refl
+
+pub body_line : (in_class taken : Bool) (rest : List ℕ) (at : ℕ) → at < length rest → begins_line_end (drop at rest) ≡ true → body_len in_class taken (drop at rest) ≡ None
+body_line in_class taken rest at h e =
+    body_front in_class taken rest at h
+    ∙ ap (λ t. cond t None (cond (ends_body in_class taken (get_or rest at 0)) (Some 1) (option_map (λ n. n + 1) (body_len (is_class_after in_class taken (get_or rest at 0)) (is_free taken (get_or rest at 0) 92) (drop (at + 1) rest))))) e
+
+pub body_stop :
+    (in_class taken : Bool) (rest : List ℕ) (at : ℕ) → at < length rest → begins_line_end (drop at rest) ≡ false → ends_body in_class taken (get_or rest at 0) ≡ true →
+    body_len in_class taken (drop at rest) ≡ Some 1
+body_stop in_class taken rest at h e f =
+    body_front in_class taken rest at h
+    ∙ ap (λ t. cond t None (cond (ends_body in_class taken (get_or rest at 0)) (Some 1) (option_map (λ n. n + 1) (body_len (is_class_after in_class taken (get_or rest at 0)) (is_free taken (get_or rest at 0) 92) (drop (at + 1) rest))))) e
+    ∙ ap (λ t. cond t (Some 1) (option_map (λ n. n + 1) (body_len (is_class_after in_class taken (get_or rest at 0)) (is_free taken (get_or rest at 0) 92) (drop (at + 1) rest)))) f
+
+pub body_pass :
+    (in_class taken : Bool) (rest : List ℕ) (at : ℕ) → at < length rest → begins_line_end (drop at rest) ≡ false → ends_body in_class taken (get_or rest at 0) ≡ false →
+    option_map (λ n. n + at) (body_len in_class taken (drop at rest))
+    ≡ option_map (λ n. n + (at + 1)) (body_len (is_class_after in_class taken (get_or rest at 0)) (is_free taken (get_or rest at 0) 92) (drop (at + 1) rest))
+body_pass in_class taken rest at h e f =
+    let later = body_len (is_class_after in_class taken (get_or rest at 0)) (is_free taken (get_or rest at 0) 92) (drop (at + 1) rest) in
+    let p : body_len in_class taken (drop at rest) ≡ option_map (λ n. n + 1) later =
+    body_front in_class taken rest at h
+    ∙ ap (λ t. cond t None (cond (ends_body in_class taken (get_or rest at 0)) (Some 1) (option_map (λ n. n + 1) later))) e
+    ∙ ap (λ t. cond t (Some 1) (option_map (λ n. n + 1) later)) f in
+    ap (option_map (λ n. n + at)) p ∙ counted_on later at 1
+
+-- nothing is left
+pub piece_past : (taken : Bool) (rest : List ℕ) (at : ℕ) → length rest ≤ at → piece_len taken (drop at rest) ≡ None
+piece_past taken rest at h = ap (piece_len taken) (drop_all at rest h)
+
+pub body_past : (in_class taken : Bool) (rest : List ℕ) (at : ℕ) → length rest ≤ at → body_len in_class taken (drop at rest) ≡ None
+body_past in_class taken rest at h = ap (body_len in_class taken) (drop_all at rest h)

@@ -1,26 +1,50 @@
--- The classes of bytes that tokens are made of.
-use Rattle.std.specs.Prelude.{ℕ, Bool, ◌&&◌, ◌||◌, ◌==◌, nat_lt}
-
--- tab, line feed, vertical tab, form feed, carriage return and blank
-abbrev pub is_space : ℕ → Bool
-is_space b = (nat_lt 8 b && nat_lt b 14) || b == 32
+-- The classes of bytes and of characters that tokens are made of.
+use Rattle.std.specs.Prelude.{ℕ, Bool, not, ◌+◌, ◌&&◌, ◌||◌, ◌==◌, nat_lt, List, [], ◌∷◌, slice_index, chars}
+use Rattle.std.specs.Str.{continuation_len}
+use Rattle.unicode_ident.specs.Ident.{is_xid_start, is_xid_continue}
+use lib.Utf8.{scalar}
 
 -- `0` to `9`
 abbrev pub is_digit : ℕ → Bool
 is_digit b = nat_lt 47 b && nat_lt b 58
 
--- `$`, `_` and the letters: what a name begins with
-abbrev pub is_start : ℕ → Bool
-is_start b = b == 36 || b == 95 || (nat_lt 64 b && nat_lt b 91) || (nat_lt 96 b && nat_lt b 123)
+-- a digit of base sixteen
+abbrev pub is_hex_digit : ℕ → Bool
+is_hex_digit b = is_digit b || (nat_lt 64 b && nat_lt b 71) || (nat_lt 96 b && nat_lt b 103)
 
--- what a name goes on with
-abbrev pub is_part : ℕ → Bool
-is_part b = is_start b || is_digit b
+-- `$`, `_`, and the letters and digits of ASCII: what a number goes on with after its digits
+abbrev pub is_number_part : ℕ → Bool
+is_number_part b = b == 36 || b == 95 || (nat_lt 64 b && nat_lt b 91) || (nat_lt 96 b && nat_lt b 123) || is_digit b
 
 -- `"` and `'`
 abbrev pub is_quote : ℕ → Bool
 is_quote b = b == 34 || b == 39
 
--- a backtick, `\`, `#`, `/` and the bytes of the characters above U+007F
-abbrev pub is_not_yet : ℕ → Bool
-is_not_yet b = b == 96 || b == 92 || b == 35 || b == 47 || nat_lt 127 b
+-- whether a byte is the wanted one, and no `\` takes it
+abbrev pub is_free : Bool → ℕ → ℕ → Bool
+is_free taken b wanted = not taken && b == wanted
+
+-- the character that a text begins with, and 0 where it begins with none
+abbrev pub first_char : List ℕ → ℕ
+first_char rest = slice_index (chars rest) 0
+
+-- how many bytes the character has that a text begins with
+abbrev pub char_len : List ℕ → ℕ
+char_len [] = 0
+char_len (b ∷ rest) = continuation_len b + 1
+
+-- the blanks and the line ends
+abbrev pub is_space : ℕ → Bool
+is_space c =
+    (nat_lt 8 c && nat_lt c 14) || c == 0x20 || c == 0xA0 || c == 0x1680 || (nat_lt 0x1FFF c && nat_lt c 0x200B) || c == 0x2028 || c == 0x2029 || c == 0x202F
+    || c == 0x205F
+    || c == 0x3000
+    || c == 0xFEFF
+
+-- the characters that a name may begin with: `$`, `_` and those of Unicode's XID_Start
+abbrev pub is_start : ℕ → Bool
+is_start c = c == 36 || c == 95 || (scalar c && is_xid_start c)
+
+-- the characters that a name may go on with: those that begin one, those of XID_Continue, U+200C and U+200D
+abbrev pub is_part : ℕ → Bool
+is_part c = is_start c || (scalar c && is_xid_continue c) || c == 0x200C || c == 0x200D

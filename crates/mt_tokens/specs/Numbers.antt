@@ -1,7 +1,7 @@
 -- Numbers.
 use Rattle.std.specs.Prelude.{ℕ, Bool, ◌+◌, ◌&&◌, ◌||◌, ◌==◌, List, drop, slice_index, if◌then◌else◌}
 use Rattle.std.specs.List.{prefix_len}
-use Rattle.mt_tokens.specs.Classes.{is_digit, is_part}
+use Rattle.mt_tokens.specs.Classes.{is_digit, is_number_part}
 
 -- whether a number begins: a digit, or `.` before a digit
 abbrev pub begins_number : List ℕ → Bool
@@ -40,5 +40,5 @@ and_after part next rest = part rest + next (drop (part rest) rest)
 -- the length of the number that the text begins with: after the digits it takes the letters, digits, `_` and `$` that follow
 abbrev pub number_len : List ℕ → ℕ
 number_len rest =
-    if begins_base rest then prefix_len is_part (drop 2 rest) + 2
-    else and_after (prefix_len is_digit_part) (and_after fraction_len (and_after exponent_len (prefix_len is_part))) rest
+    if begins_base rest then prefix_len is_number_part (drop 2 rest) + 2
+    else and_after (prefix_len is_digit_part) (and_after fraction_len (and_after exponent_len (prefix_len is_number_part))) rest

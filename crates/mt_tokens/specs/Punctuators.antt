@@ -17,11 +17,11 @@ of_three =
 abbrev pub of_two : List (List ℕ)
 of_two =
     codes "<=" ∷ codes ">=" ∷ codes "==" ∷ codes "!=" ∷ codes "**" ∷ codes "++" ∷ codes "--" ∷ codes "<<" ∷ codes ">>" ∷ codes "&&" ∷ codes "||" ∷ codes "??"
-    ∷ codes "?." ∷ codes "+=" ∷ codes "-=" ∷ codes "*=" ∷ codes "%=" ∷ codes "&=" ∷ codes "|=" ∷ codes "^=" ∷ codes "=>" ∷ []
+    ∷ codes "?." ∷ codes "+=" ∷ codes "-=" ∷ codes "*=" ∷ codes "/=" ∷ codes "%=" ∷ codes "&=" ∷ codes "|=" ∷ codes "^=" ∷ codes "=>" ∷ []
 
 -- the punctuators of one byte
 abbrev pub of_one : List (List ℕ)
-of_one = map (λ b. b ∷ []) (codes "{}()[].;,<>+-*%&|^!~?:=@")
+of_one = map (λ b. b ∷ []) (codes "{}()[].;,<>+-*/%&|^!~?:=@")
 
 -- whether a text is one of the list
 abbrev pub is_among : List (List ℕ) → List ℕ → Bool

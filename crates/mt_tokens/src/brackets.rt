@@ -1,8 +1,10 @@
 //! The brackets that are open after the tokens read so far.
-ghost use Rattle.std.specs.Prelude.{◌≡◌, ◌⊎◌, [], OnOk, IfErr, true, false};
-ghost use Rattle.mt_tokens.specs.Brackets.{is_opener, is_closer, closer_of, is_misfit, openers_after, innermost_place};
+ghost use Rattle.std.specs.Prelude.{◌≡◌, [], ◌∷◌, OnOk, IfErr, Some, None};
+ghost use Rattle.mt_tokens.specs.Brackets.{opened_by, closed_by};
+ghost use Rattle.mt_tokens.specs.Openers.{is_kept_in_template, kept_place};
+ghost use Rattle.mt_tokens.specs.declared.brackets.Opener.{Opener};
 
-use crate::TokenFault;
+use crate::{TokenFault, TokenKind};
 use std::alloc::Global;
 use std::marker::Model;
 
@@ -11,8 +13,10 @@ use std::marker::Model;
 pub(crate) struct Opener {
     /// Its place in the text.
     pub place: u32,
-    /// The byte that closes it.
+    /// The byte that closes it: a backtick for the `${` of a template.
     pub closer: u8,
+    /// Whether an operand comes after it, once it is closed.
+    pub operand: bool,
 }
 
 /// The unclosed openers. Contracts see the innermost first, which is the last in memory.
@@ -30,25 +34,33 @@ impl Model for Openers {
     ghost view = { λ o. reverse o.items.items };
 }
 
-fn is_opener_byte(b: u8) -> bool
-    ensures { result ≡ is_opener b }
+/// What closes that which a token of this kind and first byte opens, and 0 where it opens nothing.
+pub(crate) fn opened_byte(kind: TokenKind, b: u8) -> u8
+    ensures { result ≡ opened_by kind b }
 {
-    b == b'(' || b == b'[' || b == b'{'
+    match kind {
+        TokenKind::Punct => match b {
+            b'(' => b')',
+            b'[' => b']',
+            b'{' => b'}',
+            _ => 0,
+        },
+        TokenKind::Head | TokenKind::Middle => b'`',
+        _ => 0,
+    }
 }
 
-fn is_closer_byte(b: u8) -> bool
-    ensures { result ≡ is_closer b }
+/// What a token of this kind and first byte closes, and 0 where it closes nothing.
+pub(crate) fn closed_byte(kind: TokenKind, b: u8) -> u8
+    ensures { result ≡ closed_by kind b }
 {
-    b == b')' || b == b']' || b == b'}'
-}
-
-fn closer_byte(opener: u8) -> u8
-    ensures { result ≡ closer_of opener }
-{
-    match opener {
-        b'(' => b')',
-        b'[' => b']',
-        _ => b'}',
+    match kind {
+        TokenKind::Punct => match b {
+            b')' | b']' | b'}' => b,
+            _ => 0,
+        },
+        TokenKind::Middle | TokenKind::Tail => b'`',
+        _ => 0,
     }
 }
 
@@ -62,31 +74,39 @@ impl Openers {
         }
     }
 
-    /// Reads the token that begins with the byte `b` at `place`: keeps an opener, and lets a closer
-    /// take the innermost one.
-    pub(crate) fn read(&mut self, b: u8, place: u32) -> Result<(), TokenFault>
-        ensures ok { OnOk result ((is_misfit b self.old ≡ false) × (self.new ≡ openers_after b place self.old)) }
-        ensures err { IfErr result (λ e. (e ≡ TokenFault.NoMemory) ⊎ ((is_misfit b self.old ≡ true) × (e ≡ TokenFault.Unbalanced place))) }
+    /// Keeps one more opener, which is then the innermost.
+    pub(crate) fn push(&mut self, opener: Opener) -> Result<(), TokenFault>
+        ensures ok { OnOk result (self.new ≡ opener ∷ self.old) }
+        ensures err { IfErr result (λ e. e ≡ TokenFault.NoMemory) }
     {
-        if is_closer_byte(b) {
-            return match self.items.pop() {
-                Some(opener) if opener.closer == b => Ok(()),
-                _ => Err(TokenFault::Unbalanced { place }),
-            };
-        }
-        if is_opener_byte(b) {
-            let closer = closer_byte(b);
-            if self.items.push(Opener { place, closer }).is_err() {
-                return Err(TokenFault::NoMemory);
-            }
+        if self.items.push(opener).is_err() {
+            return Err(TokenFault::NoMemory);
         }
         Ok(())
     }
 
+    /// Takes the innermost opener.
+    pub(crate) fn pop(&mut self) -> Option<Opener>
+        ensures some { (o : Opener) → result ≡ Some o → self.old ≡ o ∷ self.new }
+        ensures none { result ≡ None → self.old ≡ [] }
+    {
+        self.items.pop()
+    }
+
     /// The place of the innermost opener.
     pub(crate) fn innermost(&self) -> Option<u32>
-        ensures { result ≡ innermost_place self.now }
+        ensures { result ≡ kept_place self.now }
     {
         self.items.last().map(|opener| opener.place)
+    }
+
+    /// Whether the innermost opener is the `${` of a template.
+    pub(crate) fn is_in_template(&self) -> bool
+        ensures { result ≡ is_kept_in_template self.now }
+    {
+        match self.items.last() {
+            Some(opener) => opener.closer == b'`',
+            None => false,
+        }
     }
 }

@@ -17,7 +17,7 @@ pub(crate) fn begins_comment_at(place: u32, rest: &[u8]) -> bool
 }
 
 /// Whether the text begins with a line end: a line feed, a carriage return, U+2028 or U+2029.
-fn begins_line_end_at(rest: &[u8]) -> bool
+pub fn begins_line_end_at(rest: &[u8]) -> bool
     ensures { result ≡ begins_line_end rest.now }
 {
     match byte_at(rest, 0) {

@@ -6,7 +6,7 @@ use thiserror::Error;
 /// A dependency of a text. Its list has each name and kind once.
 #[derive(Debug, Drop)]
 pub struct Dep {
-    /// What is between the quotes.
+    /// What its string says.
     pub name: Text,
     /// How the text names it.
     pub kind: DepKind,
@@ -34,12 +34,15 @@ pub struct Mark {
     pub local: Text,
 }
 
-/// Why a text has no dependencies.
+/// Why a text has no dependencies. Places are in bytes from 0.
 #[derive(Clone, Copy, Debug, PartialEq, Eq, Error)]
 pub enum DepFault {
-    /// An `import`, an `export`, or a `require` that isn't a call with one simple string; its place in bytes from 0.
-    #[error("not built yet at {place}")]
-    NotYet { place: u32 },
+    /// An `import` that begins no form of an import.
+    #[error("the import at {place} has no known form")]
+    ImportForm { place: u32 },
+    /// An `export` that begins no form of an export.
+    #[error("the export at {place} has no known form")]
+    ExportForm { place: u32 },
     #[error("out of memory")]
     NoMemory,
 }

@@ -1,10 +1,10 @@
 //! Numbers.
 ghost use Rattle.std.specs.Prelude.{◌≡◌, ◌≤◌, length};
 ghost use Rattle.std.specs.List.{prefix_len};
-ghost use Rattle.mt_tokens.specs.Classes.{is_digit, is_part};
+ghost use Rattle.mt_tokens.specs.Classes.{is_digit, is_number_part};
 ghost use Rattle.mt_tokens.specs.Numbers.{begins_number, begins_base, is_digit_part, fraction_len, sign_len, exponent_len, and_after, number_len};
 
-use crate::classes::{byte_at, is_digit_byte, part_len};
+use crate::classes::{byte_at, is_digit_byte, number_part_len};
 
 /// Whether a number begins here.
 pub(crate) fn begins_number_at(rest: &[u8]) -> bool
@@ -83,16 +83,16 @@ fn front_exponent_len(rest: &[u8]) -> usize
 
 /// The length of the exponent, and of the letters after it.
 fn after_fraction_len(rest: &[u8]) -> usize
-    ensures value { result ≡ and_after exponent_len (prefix_len is_part) rest.now }
+    ensures value { result ≡ and_after exponent_len (prefix_len is_number_part) rest.now }
     ensures within { result ≤ length rest.now }
 {
     let len = front_exponent_len(rest);
-    len + part_len(&rest[len..])
+    len + number_part_len(&rest[len..])
 }
 
 /// The length of the fraction, and of what belongs to the number after it.
 fn after_digits_len(rest: &[u8]) -> usize
-    ensures value { result ≡ and_after fraction_len (and_after exponent_len (prefix_len is_part)) rest.now }
+    ensures value { result ≡ and_after fraction_len (and_after exponent_len (prefix_len is_number_part)) rest.now }
     ensures within { result ≤ length rest.now }
 {
     let len = front_fraction_len(rest);
@@ -104,7 +104,7 @@ pub(crate) fn front_number_len(rest: &[u8]) -> usize
     ensures { result ≡ number_len rest.now }
 {
     if begins_base_at(rest) {
-        return part_len(&rest[2..]) + 2;
+        return number_part_len(&rest[2..]) + 2;
     }
     let len = digit_part_len(rest);
     len + after_digits_len(&rest[len..])

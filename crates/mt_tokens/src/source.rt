@@ -57,9 +57,6 @@ pub enum SourceFault {
     NotUtf8 { place: u32 },
     #[error("{why} at {place}")]
     Syntax { place: u32, why: SyntaxFault },
-    /// The source has a form that is not supported yet.
-    #[error("not built yet at {place}")]
-    NotYet { place: u32 },
     /// A JSON source that isn't JSON.
     #[error("not JSON")]
     Json,

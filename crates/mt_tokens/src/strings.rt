@@ -6,7 +6,7 @@ use crate::{TokenFault, TokenKind};
 
 /// How many bytes a `\` takes with it from those after it: a carriage return and a line feed are
 /// one character.
-fn front_escape_len(rest: &[u8]) -> usize
+pub(crate) fn front_escape_len(rest: &[u8]) -> usize
     ensures { result ≡ escape_len rest.now }
 {
     if rest.starts_with(b"\r\n") { 2 } else { 1 }

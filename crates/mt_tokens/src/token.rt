@@ -10,10 +10,22 @@ pub enum TokenKind {
     Comment,
     /// A name or a word of the language.
     Ident,
+    /// A private name, with its `#`.
+    Private,
     /// A number, with the letters after it.
     Number,
     /// A string in quotes.
     Str,
+    /// A template in which no `${` stands.
+    Whole,
+    /// The first piece of a template, through its first `${`.
+    Head,
+    /// A piece from a `}` through the next `${` of the same template.
+    Middle,
+    /// The last piece, from a `}` through the backtick.
+    Tail,
+    /// A regular expression, with the letters after it.
+    Regex,
     /// An operator, a bracket or a mark.
     Punct,
 }
@@ -38,16 +50,18 @@ pub enum TokenFault {
     /// A comment that begins with `/*`, and that no `*/` ends.
     #[error("the comment at {place} is not closed")]
     UnclosedComment { place: u32 },
+    /// A piece of a template that no backtick or `${` ends.
+    #[error("the template at {place} is not closed")]
+    UnclosedTemplate { place: u32 },
+    /// A regular expression whose line or text ends before it does.
+    #[error("the regular expression at {place} is not closed")]
+    UnclosedRegex { place: u32 },
     /// A byte that no token begins with.
     #[error("the byte at {place} begins no token")]
     BadByte { place: u32 },
     /// A closer that doesn't fit the innermost open bracket, or a bracket that is open at the end.
     #[error("the bracket at {place} has no partner")]
     Unbalanced { place: u32 },
-    /// A part of the language that isn't read yet: a template, a regular expression or a division,
-    /// a private name, or a name with an escape or with characters above U+007F.
-    #[error("what stands at {place} is not read yet")]
-    NotYet { place: u32 },
     /// Out of memory.
     #[error("out of memory")]
     NoMemory,

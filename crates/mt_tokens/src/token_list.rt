@@ -55,6 +55,7 @@ impl TokenList {
     /// The tokens as a slice.
     pub fn as_slice(&self) -> &[Token]
         ensures tokens { result.now ≡ self.now }
+        ensures few { length result.now < 4294967296 }
     {
         self.items.as_slice()
     }

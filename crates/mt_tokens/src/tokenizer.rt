@@ -1,9 +1,9 @@
 //! The tokens of a text, in a profile of the lexical grammar of ECMAScript.
-ghost use Rattle.std.specs.Prelude.{◌≡◌, ◌↔◌, ◌≤◌, ◌<◌, ◌⊎◌, length, List, ℕ, IfOk, IfErr, Ok, Err};
-ghost use Rattle.mt_tokens.specs.Tokens.{Covers, HasFault, HasTokens, max_text_bytes, token_at, tokens_of};
+ghost use Rattle.std.specs.Prelude.{◌≡◌, ◌↔◌, ◌≤◌, ◌<◌, ◌⊎◌, length, List, ℕ, IfOk, IfErr, Ok, Err, All};
+ghost use Rattle.mt_tokens.specs.Tokens.{Covers, HasFault, HasTokens, IsCut, max_text_bytes, token_at, tokens_of};
 
-use crate::brackets::Openers;
-use crate::front::front_token;
+use crate::front::{Before, front_token};
+use crate::scanner::Scanner;
 use crate::{Token, TokenFault, TokenList};
 use std::alloc::Global;
 
@@ -11,15 +11,15 @@ use std::alloc::Global;
 pub const MAX_TEXT_BYTES: usize = 16_777_216;
 
 /// The token at the place `at`, which is before the end.
-fn token_in(bytes: &[u8], at: usize) -> Result<Token, TokenFault>
+fn token_in(bytes: &[u8], before: Before, at: usize) -> Result<Token, TokenFault>
     requires inside { at < length bytes.now }
     requires short { length bytes.now ≤ max_text_bytes }
-    ensures exact { result ≡ token_at bytes.now at }
+    ensures exact { result ≡ token_at bytes.now before at }
     ensures starts { IfOk result (λ t. t.start ≡ at) }
     ensures ends { IfOk result (λ t. (at < t.end) × (t.end ≤ length bytes.now)) }
 {
     let start = at as u32;
-    let (kind, len) = front_token(start, &bytes[at..])?;
+    let (kind, len) = front_token(before, start, &bytes[at..])?;
     let end = (at + len) as u32;
     Ok(Token { kind, start, end })
 }
@@ -31,17 +31,17 @@ fn read_tokens(alloc: Global, text: &str) -> Result<TokenList, TokenFault>
 {
     let bytes = text.as_bytes();
     let mut found = Vec::new(alloc);
-    let mut openers = Openers::new(alloc);
+    let mut scanner = Scanner::new(alloc);
     let mut at = 0;
     while at < bytes.len() {
-        let token = token_in(bytes, at)?;
-        openers.read(bytes[at], token.start)?;
+        let token = token_in(bytes, scanner.before(), at)?;
+        scanner.read(bytes, token)?;
         if found.push(token).is_err() {
             return Err(TokenFault::NoMemory);
         }
         at = token.end as usize;
     }
-    if let Some(place) = openers.innermost() {
+    if let Some(place) = scanner.innermost() {
         return Err(TokenFault::Unbalanced { place });
     }
     Ok(TokenList::from_vec(found))
@@ -53,7 +53,8 @@ fn read_tokens(alloc: Global, text: &str) -> Result<TokenList, TokenFault>
 pub fn tokens(alloc: Global, text: &str) -> Result<TokenList, TokenFault>
     requires { length text.now ≤ max_text_bytes }
     ensures exact { (result ≡ Err TokenFault.NoMemory) ⊎ (result ≡ tokens_of text.now) }
-    ensures covers { IfOk result (λ ts. Covers 0 text.now ts) }
+    ensures covers { IfOk result (λ ts. Covers 0 (length text.now) ts) }
+    ensures cut { IfOk result (λ ts. All (IsCut text.now) ts) }
     ensures tokens { IfOk result (λ ts. HasTokens text.now ts) }
     ensures fault { IfErr result (λ e. (e ≡ TokenFault.NoMemory) ⊎ HasFault text.now e) }
 {

@@ -1,4 +1,3 @@
 pub mod Bodies
-pub mod Edited
 pub mod Outputs
 pub mod Transformed

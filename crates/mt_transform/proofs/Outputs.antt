@@ -1,5 +1,5 @@
 -- Outputs that are what their sources become.
-use Rattle.std.proofs.Common.{◌≡◌, Bool, ℕ, List, get_or, length, map, Result, Ok, Err, ap, subst, ◌∙◌}
+use Rattle.std.proofs.Common.{◌≡◌, Bool, ℕ, List, get_or, length, map, Result, Ok, Err, ap, subst, sym, ◌∙◌}
 use Rattle.std.specs.List.{slice_get}
 use Rattle.std.specs.Option.{unwrap_or}
 use Rattle.std.proofs.lemmas.List.{length-map}
@@ -7,7 +7,7 @@ use Rattle.std.proofs.lemmas.Option.{unwrap_or-slice_get}
 use Rattle.mt_tokens.specs.Transform.{Transformed, dependencies_of, transformed}
 use Rattle.mt_tokens.specs.declared.source.PathKind.{PathKind}
 use Rattle.mt_tokens.specs.declared.source.SourceFault.{SourceFault}
-use Rattle.mt_transform.specs.Outputs.{IsSure, name_of, output_made, output_of, source_dependencies}
+use Rattle.mt_transform.specs.Outputs.{IsSure, name_of, output_made, output_of, places_of, source_dependencies}
 use Rattle.mt_transform.specs.declared.output.Output.{Output}
 
 -- what an output keeps of what it was made of
@@ -31,11 +31,12 @@ output_sure strip kind source o e =
     subst (λ s. output_of o.strip o.kind s ≡ Ok o) k.source_is (subst (λ x. output_of o.strip x source ≡ Ok o) k.kind_is (subst (λ b. output_of b kind source ≡ Ok o) k.strip_is e))
 
 -- the names of an output that is sure
-pub sure_names : (o : Output) → IsSure o → o.names ≡ map name_of (source_dependencies o)
+sure_names : (o : Output) → IsSure o → o.names ≡ map name_of (source_dependencies o)
 sure_names o h = (output_keeps o.strip o.kind o.source o h).names_are
 
-pub sure_length : (o : Output) → IsSure o → length o.names ≡ length (source_dependencies o)
-sure_length o h = ap length (sure_names o h) ∙ length-map (source_dependencies o) name_of
+-- each of them has a place
+pub sure_places : (o : Output) → IsSure o → length (places_of o) ≡ length o.names
+sure_places o h = length-map (source_dependencies o) (λ d. d.place) ∙ sym (ap length (sure_names o h) ∙ length-map (source_dependencies o) name_of)
 
 -- a place that is read, 0 where there is none
 pub place_at : (places : List ℕ) (i : ℕ) → unwrap_or (slice_get places i) 0 ≡ get_or places i 0

@@ -1,3 +1,4 @@
+pub mod Drafts
 pub mod OutputValues
 pub mod Outputs
 pub mod Readings

@@ -4,7 +4,7 @@ ghost use Rattle.mt_tokens.specs.Sources.{max_source_bytes};
 ghost use Rattle.mt_tokens.specs.Transform.{max_dependencies};
 ghost use Rattle.mt_transform.specs.Outputs.{places_of};
 
-use crate::reading::read_source;
+use crate::reading::{Reading, read_source};
 use mt_containers::List;
 use mt_deps::{Dep, DepKind};
 use mt_tokens::{Bytes, PathKind, Shared, SourceFault, Text};
@@ -97,7 +97,8 @@ impl Output {
         ensures exact { IfOk result (λ places. places ≡ places_of self.now) }
     {
         match read_source(alloc, self.kind, self.source.as_slice()) {
-            Ok(reading) => dep_places(alloc, reading.list.deps().as_slice()),
+            Ok(Reading::Script { list, .. }) => dep_places(alloc, list.deps().as_slice()),
+            Ok(Reading::Json) => Ok(List::new(alloc)),
             Err(SourceFault::NoMemory) => Err(AllocError),
             Err(_) => Ok(List::new(alloc)),
         }

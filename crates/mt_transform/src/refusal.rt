@@ -18,6 +18,14 @@ pub(crate) fn token_refusal(fault: TokenFault) -> SourceFault
             place,
             why: SyntaxFault::UnclosedComment,
         },
+        TokenFault::UnclosedTemplate { place } => SourceFault::Syntax {
+            place,
+            why: SyntaxFault::UnclosedTemplate,
+        },
+        TokenFault::UnclosedRegex { place } => SourceFault::Syntax {
+            place,
+            why: SyntaxFault::UnclosedRegex,
+        },
         TokenFault::BadByte { place } => SourceFault::Syntax {
             place,
             why: SyntaxFault::BadCharacter,
@@ -26,7 +34,6 @@ pub(crate) fn token_refusal(fault: TokenFault) -> SourceFault
             place,
             why: SyntaxFault::UnbalancedBracket,
         },
-        TokenFault::NotYet { place } => SourceFault::NotYet { place },
         TokenFault::NoMemory => SourceFault::NoMemory,
     }
 }
@@ -36,7 +43,14 @@ pub(crate) fn dep_refusal(fault: DepFault) -> SourceFault
     ensures { result ≡ refusal_of_deps fault }
 {
     match fault {
-        DepFault::NotYet { place } => SourceFault::NotYet { place },
+        DepFault::ImportForm { place } => SourceFault::Syntax {
+            place,
+            why: SyntaxFault::ImportForm,
+        },
+        DepFault::ExportForm { place } => SourceFault::Syntax {
+            place,
+            why: SyntaxFault::ExportForm,
+        },
         DepFault::NoMemory => SourceFault::NoMemory,
     }
 }

@@ -1,5 +1,6 @@
 -- What is dead, and what it takes to find it.
-use Rattle.std.specs.Prelude.{ℕ, ◌+◌, List, length}
+use Rattle.std.specs.Prelude.{ℕ, ◌+◌, ◌≡◌, ◌↔◌, List, filter, not, length}
+use Rattle.std.specs.Bool.{IsTrue}
 use Rattle.std.specs.List.{sum_by}
 use Rattle.std.specs.Option.{unwrap_or}
 use Rattle.std.specs.Ordering.{nat_cmp}
@@ -11,6 +12,12 @@ use Rattle.mt_refs.specs.Graphs.{Graph, IsLive, edges_from}
 -- a live node that no walk from a pinned node reaches
 abbrev pub IsDead : Graph → ℕ → Type 0
 IsDead g n = IsLive g n × (IsReached (edges_from g) g.pins n → ⊥)
+
+-- the nodes of a list that a set of just what some nodes reach lacks
+pub record IsRest (g : Graph) (holding nodes rest : List ℕ) : Type 0 where
+  pub kept : map.FinMap nat_cmp Unit
+  pub exact : (n : ℕ) → IsTrue (map.contains_key kept n) ↔ IsReached (edges_from g) holding n
+  pub same : rest ≡ filter (λ n. not (map.contains_key kept n)) nodes
 
 -- one for each of some nodes, and one for each edge from them
 abbrev pub reads_of : Graph → List ℕ → ℕ

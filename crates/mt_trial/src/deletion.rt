@@ -6,7 +6,7 @@ ghost use Rattle.std.specs.Ordering.{nat_cmp};
 ghost use Rattle.std.specs.FinMap as map;
 ghost use Rattle.mt_containers.specs.Walks.{IsReached};
 ghost use Rattle.mt_refs.specs.Graphs.{IsLive, edges_from};
-ghost use Rattle.mt_trial.specs.Deaths.{IsDead, reads_of};
+ghost use Rattle.mt_trial.specs.Deaths.{IsDead, IsRest, reads_of};
 
 use crate::counts::{held, outer_counts};
 use crate::walk::{listed, walk};
@@ -26,6 +26,23 @@ fn without(alloc: Global, nodes: &[u32], kept: &NumberSet) -> Result<List<u32>, 
         }
     }
     Ok(rest)
+}
+
+/// Those of some nodes that the holding nodes don't reach.
+fn unreached<L: Ledger>(
+    alloc: Global,
+    overlay: &Overlay<'_>,
+    nodes: &[u32],
+    holding: List<u32>,
+    steps: &mut Steps<L>,
+) -> Result<List<u32>, AllocError>
+    requires live { All (IsLive overlay.now) holding }
+    ensures rest { IfOk result (λ rest. IsRest overlay.now holding nodes.now rest) }
+    ensures cost { (most : List ℕ) → IsStrictlySortedBy nat_cmp most → ((n : ℕ) → IsReached (edges_from overlay.now) holding n → Contains most n)
+        → steps.new ≤ steps.old + reads_of overlay.now most }
+{
+    let kept = walk(alloc, overlay, holding, steps)?;
+    without(alloc, nodes, &kept)
 }
 
 /// The live nodes that no pinned node reaches, ascending. Each of them has to be reached from a candidate.
@@ -49,6 +66,5 @@ pub fn dead<L: Ledger>(
     let reached = listed(alloc, &walk(alloc, overlay, starts, steps)?)?;
     let counts = outer_counts(alloc, overlay, reached.as_slice(), steps)?;
     let holding = held(alloc, reached.as_slice(), &counts)?;
-    let kept = walk(alloc, overlay, holding, steps)?;
-    without(alloc, reached.as_slice(), &kept)
+    unreached(alloc, overlay, reached.as_slice(), holding, steps)
 }

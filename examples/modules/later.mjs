@@ -1,0 +1,2 @@
+import named, { kind } from "./lazy.mjs";
+export default async function () { await null; return named(kind) + " again"; }

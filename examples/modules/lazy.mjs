@@ -1,0 +1,2 @@
+export const kind = "lazy"
+export default (word) => word + "!";

@@ -1,0 +1,2 @@
+export let one = "one";
+export default async function* steps() { yield one; }

@@ -1,0 +1,4 @@
+const { PI } = Math;
+export default function (radius) {
+  return PI * radius ** 2;
+}
