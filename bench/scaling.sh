@@ -1,7 +1,8 @@
 #!/usr/bin/env bash
 # Measures metro on made folders: 1,000, 10,000 and 50,000 small modules that require each other, 64 MB of source in
-# 100 files, 5,000 modules of 1 KiB beside `cat` of the same files, and 2,000 modules of 1,000 edges; then replays over 1,000 small modules, of 2,000
-# edits that are built one by one and of 65,536 changes; then single modules of many tokens. Run by hand, after `rt ci` has left the program, or with
+# 100 files, 5,000 modules of 1 KiB beside `cat` of the same files, and 2,000 modules of 1,000 edges, also by `deps` and `check`; a check
+# of 16 MB with 4,096 names that lead nowhere; then replays over 1,000 small modules, of 2,000 edits that are built one by one and
+# of 65,536 changes; then single modules of many tokens. Run by hand, after `rt ci` has left the program, or with
 # METRO_PROGRAM naming another one.
 set -eu
 top="$(cd "$(dirname "$0")/.." && pwd)"
@@ -65,13 +66,27 @@ with open(os.path.join(folder, "index.js"), "w") as file:
 PY
 }
 
+# named COUNT SIZE FOLDER: one module of so many bytes, with so many names that lead nowhere.
+named() {
+  python3 - "$1" "$2" "$3" <<'PY'
+import os, sys
+count, size, folder = int(sys.argv[1]), int(sys.argv[2]), sys.argv[3]
+os.makedirs(folder, exist_ok=True)
+filler = "var value = compute(first, second) + offset; // a line of text\n"
+with open(os.path.join(folder, "index.js"), "w") as file:
+    for i in range(count):
+        line = 'require("./gone%d.js");\n' % i
+        file.write(line + filler * ((size // count - len(line)) // len(filler)))
+PY
+}
+
 # timed FOLDER [COMMAND [SCRIPT [RUNS [ENTRY [STATUS]]]]]: seconds of the fastest run, and the kilobytes of the largest; each has
 # to end with STATUS. The peak is asked for as the program runs, since what the system tells of a process that ended counts what
 # it was started from, too.
 timed() {
   (cd "$1" && python3 - "$program" "${2:-bundle}" "${3:-/dev/null}" "${4:-3}" "${5:-index.js}" "${6:-0}" <<'PY'
 import subprocess, sys, time
-program, command, script, runs, entry, status = sys.argv[1:]
+program, command, script, runs, entry, wanted = sys.argv[1:]
 best, peak = None, 0
 for _ in range(int(runs)):
     with open(script, "rb") as source:
@@ -88,7 +103,7 @@ for _ in range(int(runs)):
             pass
         time.sleep(0.0005)
     taken = time.time() - start
-    if run.returncode != int(status):
+    if run.returncode != int(wanted):
         sys.exit("status %d" % run.returncode)
     best = taken if best is None else min(best, taken)
     peak = max(peak, last)
@@ -132,6 +147,15 @@ echo "5000 modules of 1 KiB: $seconds s, cat of the same files $cat_seconds s, r
 dense 2000 1000 "$work/dense"
 read -r seconds peak <<<"$(timed "$work/dense")"
 echo "2000 modules of 1000 edges each: $seconds s (wanted: 3.6), peak $peak KB (wanted at most 506000)"
+
+for command in deps check; do
+  read -r seconds peak <<<"$(timed "$work/dense" "$command")"
+  echo "$command of these: $seconds s, peak $peak KB"
+done
+
+named 4096 16777216 "$work/named"
+read -r seconds peak <<<"$(timed "$work/named" check /dev/null 3 index.js 1)"
+echo "check of 16 MB with 4096 names that lead nowhere: $seconds s (wanted: under 1), peak $peak KB"
 
 # replayed NAME SCRIPT BUILDS: a replay over the 1,000 small modules, beside BUILDS bundles and a replay of `end` alone.
 replayed() {
@@ -196,7 +220,7 @@ repeated '`;`' 0 '' ';' '' ''
 repeated '`a;`' 0 '' 'a;' '' ''
 repeated 'divisions after parentheses' 0 '' '(1)/a/' '1' ''
 repeated 'regular expressions after blocks' 0 '' '{}/a/g;' '' ''
-repeated 'divisions after comments' 0 '' '/**/ /**/x/' '1' ''
+repeated 'divisions after comments' 0 '' '/**/ /**/x/ ' '1' ''
 repeated 'nested templates' 0 '' '`${' '1' '}`'
 repeated 'nested templates, unclosed' 1 '' '`${' '' ''
 repeated 'nested parentheses' 0 '' '(' '1' ')'

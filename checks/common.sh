@@ -53,12 +53,13 @@ bundle_of() {
   printf '__r(0);\n'
 }
 
-# files_in FOLDER [NAME BODY]..: makes FOLDER with these files.
+# files_in FOLDER [NAME BODY]..: makes FOLDER with these files, and the folders that their names name.
 files_in() {
   local folder="$1"
   shift
   mkdir -p "$folder"
   while [ "$#" -ge 2 ]; do
+    case "$1" in */*) mkdir -p "$folder/${1%/*}" ;; esac
     printf '%s' "$2" >"$folder/$1"
     shift 2
   done

@@ -1,5 +1,5 @@
 #!/usr/bin/env bash
-# Refuses memory at the N-th allocation of a small bundle and of a small replay, for each N: the run ends with 5 and a
+# Refuses memory at the N-th allocation of each command over a small folder, for each N: the run ends with 5 and a
 # prefix of its output, or as it does with ample memory, and a run after all of them is as with ample memory. By hand, after
 # `rt ci` has left the program: it wants a C compiler and glibc, since a small library stands before the program's malloc.
 #
@@ -44,7 +44,7 @@ judge() {
 }
 
 failed=0
-for command in bundle replay; do
+for command in bundle deps check replay; do
   refused=0
   passed=0
   n="$first"

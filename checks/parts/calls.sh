@@ -49,11 +49,14 @@ each_read() {
   log_is ""
   if "$holds"; then
     faulty script "$at" "$@"
-    is_left 0 "$work/whole" && [ ! -e "$work/mark" ] || holds=false
+    is_left "$sound" "$work/whole" && [ ! -e "$work/mark" ] || holds=false
   fi
   piece=
   tell "$name"
 }
+
+# A run that no call fails ends with this status.
+sound=0
 
 # each_call NAME PHASES FOLDER WORD..: each call of the folder ends the run. The folder is read whole in each of the phases,
 # whose numbers of lines before them are given, as often in one as in another.
@@ -63,13 +66,13 @@ each_call() {
   read -r -a ends <<<"$phases"
   log_is ""
   faulty folder 0 "$@"
-  is_left 0 "$work/whole" && holds=true || holds=false
+  is_left "$sound" "$work/whole" && holds=true || holds=false
   for ((at = 1; at <= 1000; at++)); do
     faulty folder "$at" "$@"
     [ -e "$work/mark" ] || break
   done
   calls=$(((at - 1) / ${#ends[@]}))
-  [ "$calls" -ge 2 ] && [ $((calls * ${#ends[@]})) -eq $((at - 1)) ] && is_left 0 "$work/whole" || holds=false
+  [ "$calls" -ge 2 ] && [ $((calls * ${#ends[@]})) -eq $((at - 1)) ] && is_left "$sound" "$work/whole" || holds=false
   log_is "metro: read failed"
   for ((at = 1; at <= calls * ${#ends[@]}; at++)); do
     "$holds" || break
@@ -101,7 +104,7 @@ each_write() {
     before="$taken"
   done
   log_is ""
-  if "$holds"; then is_left 0 "$work/whole" && [ "$at" -gt 1 ] || holds=false; fi
+  if "$holds"; then is_left "$sound" "$work/whole" && [ "$at" -gt 1 ] || holds=false; fi
   tell "$name"
 }
 
@@ -120,7 +123,7 @@ each_room() {
   if "$holds"; then
     room="$at"
     faulty output 0 "$@"
-    is_left 0 "$work/whole" || holds=false
+    is_left "$sound" "$work/whole" || holds=false
   fi
   room=
   tell "$name"
@@ -140,6 +143,26 @@ else
   each_call "each call of the folder ends a bundle" 0 "$folder" bundle a.js
   each_write "each write of the output ends a bundle" "$folder" bundle a.js
   each_room "an output that is full takes what it has room for of a bundle" "$folder" bundle a.js
+
+  # The graph of these files, and a check that finds nothing.
+  printf '0 0 1 1 /a.js\n1 0 0 /lib/b.js\n' >"$work/whole"
+  each_call "each call of the folder ends a graph" 0 "$folder" deps a.js
+  each_write "each write of the output ends a graph" "$folder" deps a.js
+  each_room "an output that is full takes what it has room for of a graph" "$folder" deps a.js
+  echo 'ok 2 0' >"$work/whole"
+  each_call "each call of the folder ends a check" 0 "$folder" check a.js
+  each_write "each write of the output ends a check" "$folder" check a.js
+  each_room "an output that is full takes what it has room for of a check" "$folder" check a.js
+
+  # A check that finds faults.
+  folder="$work/calls-faulty"
+  files_in "$folder" a.js 'require("./n.js");require("./lib/b.js");' lib/b.js '('
+  printf '/a.js:8: cannot resolve "./n.js"\n/lib/b.js:0: syntax: unbalanced bracket\n' >"$work/whole"
+  sound=1
+  each_call "each call of the folder ends a check of faults" 0 "$folder" check a.js
+  each_write "each write of the output ends a check of faults" "$folder" check a.js
+  each_room "an output that is full takes what it has room for of faults" "$folder" check a.js
+  sound=0
 
   # A replay of a lone entry.
   folder="$work/calls-lone"

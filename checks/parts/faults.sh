@@ -90,6 +90,12 @@ if [ "$(id -u)" -ne 0 ] || "${as_nobody[@]}" test -x "$work/metro" 2>/dev/null; 
   judge "a file without permission is a fault" 3 "$got" "$work/empty"
   locked two bundle gone.js
   judge "a fault of the folder comes before a refused build" 3 "$got" "$work/empty"
+  for command in deps check; do
+    locked one $command index.js
+    judge "a folder without permission is a fault of $command" 3 "$got" "$work/empty"
+    locked two $command gone.js
+    judge "a file without permission is a fault of $command" 3 "$got" "$work/empty"
+  done
 
   # The folder is listed, and then the files are read by their paths.
   locked three bundle gone.js
@@ -100,6 +106,8 @@ if [ "$(id -u)" -ne 0 ] || "${as_nobody[@]}" test -x "$work/metro" 2>/dev/null; 
 
   locked_words "metro: word 2" bundle
   locked_words "metro: word 2" replay
+  locked_words "metro: word 2" deps
+  locked_words "metro: word 3" check index.js b.js
   locked_words "metro: word 2" replay -a.js
   locked_words "metro: word 3" replay index.js b.js
 

@@ -11,8 +11,13 @@ bundle_of '@' '' index.js >"$work/frame"
   sed '1,/^@$/d' "$work/frame"
 } >"$work/wanted"
 check "a source of 16777216 bytes is bundled" 0 "$work/wanted" "" "$folder" bundle index.js
+echo '0 0 0 /index.js' >"$work/wanted"
+check "a source of 16777216 bytes is listed" 0 "$work/wanted" "" "$folder" deps index.js
 printf ' ' >>"$folder/index.js"
-check "a source of 16777217 bytes meets the limit" 6 "$work/empty" "metro: limit file 16777216" "$folder" bundle index.js
+for command in bundle deps check; do
+  check "a source of 16777217 bytes meets the limit of $command" 6 "$work/empty" "metro: limit file 16777216" \
+    "$folder" $command index.js
+done
 (cd "$folder" && exec timeout 60 "$metro" bundle index.js) >"$work/out" 2>/dev/full </dev/null
 got=$?
 : >"$work/log"
@@ -62,4 +67,21 @@ files_in "$folder" index.js '1;'
 check "262144 files pass" 0 "$work/wanted" "" "$folder" bundle index.js
 touch "$folder/0.txt"
 check "262145 files meet the limit" 6 "$work/empty" "metro: limit files 262144" "$folder" bundle index.js
+rm -r "$folder"
+
+# 65,536 modules, each of which requires the next, and one more. Too many modules are the one fault, whatever else is wrong.
+folder="$work/chain"
+mkdir -p "$folder"
+awk -v folder="$folder" 'BEGIN { for (i = 0; i < 65536; i++) { file = folder "/m" i ".js"; printf "require(\"./m%d.js\");", i + 1 > file; close(file) } }'
+printf '1;' >"$folder/m65535.js"
+echo 'ok 65536 0' >"$work/wanted"
+check "65536 modules pass" 0 "$work/wanted" "" "$folder" check m0.js
+printf '(' >"$folder/m65535.js"
+echo '/m65535.js:0: syntax: unbalanced bracket' >"$work/wanted"
+check "a fault of 65536 modules is listed" 1 "$work/wanted" "" "$folder" check m0.js
+printf 'require("./m65536.js");require("./gone.js");' >"$folder/m65535.js"
+printf '1;' >"$folder/m65536.js"
+echo 'more than 65536 modules' >"$work/wanted"
+check "65537 modules are one fault" 1 "$work/wanted" "" "$folder" check m0.js
+check "65537 modules have no graph" 1 "$work/empty" "metro: more than 65536 modules" "$folder" deps m0.js
 rm -r "$folder"

@@ -12,7 +12,15 @@ check "a command without an entry is refused" 2 "$work/empty" "metro: word 2" "$
 check "an option is refused" 2 "$work/empty" "metro: word 2" "$folder" bundle --dev
 check "an entry with a folder above it is refused" 2 "$work/empty" "metro: word 2" "$folder" bundle ../a.js
 check "a word too many is refused" 2 "$work/empty" "metro: word 3" "$folder" bundle a.js b.js
-check "a command of another program is refused" 2 "$work/empty" "metro: word 1" "$folder" deps a.js
+check "a command that is not there is refused" 2 "$work/empty" "metro: word 1" "$folder" serve a.js
 check "an entry that begins with a dash is refused" 2 "$work/empty" "metro: word 2" "$folder" bundle -a.js
 check "an entry with a point before it is refused" 2 "$work/empty" "metro: word 2" "$folder" bundle ./a.js
 check "the first bad word is named" 2 "$work/empty" "metro: word 2" "$folder" bundle / b.js
+for command in deps check; do
+  check "$command without an entry is refused" 2 "$work/empty" "metro: word 2" "$folder" $command
+  check "an option of $command is refused" 2 "$work/empty" "metro: word 2" "$folder" $command --dev
+  check "the root is no entry of $command" 2 "$work/empty" "metro: word 2" "$folder" $command /
+  check "a word too many after $command is refused" 2 "$work/empty" "metro: word 3" "$folder" $command a.js b.js
+  check "a word that begins as $command is no command" 2 "$work/empty" "metro: word 1" "$folder" ${command}s a.js
+  check "a word with which $command begins is no command" 2 "$work/empty" "metro: word 1" "$folder" ${command%?} a.js
+done

@@ -27,6 +27,7 @@ fn ends(alloc: Global, outcome: Outcome, status: u8, line: &str) -> Result<bool,
 fn each_outcome_has_its_status_and_its_line(rt: HostRuntime) -> Result<(), Fail> {
     for (outcome, status, line) in [
         (Outcome::Done, 0, ""),
+        (Outcome::Faulty, 1, ""),
         (Outcome::BadWord(3), 2, "metro: word 3\n"),
         (Outcome::ReadFailed, 3, "metro: read failed\n"),
         (Outcome::WriteFailed, 4, "metro: write failed\n"),

@@ -86,7 +86,7 @@ fn all_faults(alloc: Global, files: &FileMap, entry: &str) -> Result<String, Fai
     let options = Options::standard(alloc)?;
     let entries = [Path::parse(alloc, entry)?];
     let found = faults(alloc, files, &options, &entries)?;
-    Ok(lines_of(alloc, &found)?)
+    Ok(lines_of(alloc, &found.list)?)
 }
 
 /// The texts of all faults from two entries, a line each, where they differ.
@@ -103,7 +103,7 @@ fn faults_of_two(
     let options = Options::standard(alloc)?;
     let entries = [first, second];
     let found = faults(alloc, files, &options, &entries)?;
-    Ok(lines_of(alloc, &found)?)
+    Ok(lines_of(alloc, &found.list)?)
 }
 
 // ---- graphs

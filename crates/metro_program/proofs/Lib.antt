@@ -14,6 +14,9 @@ pub mod Replays
 pub mod Readings
 pub mod Replayed
 pub mod HasDone
-pub mod Bundles
+pub mod Fulfils
+pub mod First
+pub mod PrintsGraph
+pub mod Checks
 pub mod Owes
 pub mod Asked

@@ -17,15 +17,15 @@ use Rattle.mt_script.specs.declared.command.Command.TheVariants.{Build}
 use Rattle.mt_report.specs.Outcomes.{IsBadWord, IsPlanned, crawl_outcome, line_of, status_of}
 use Rattle.mt_report.specs.declared.outcome.Outcome.{Outcome}
 use Rattle.mt_report.specs.declared.outcome.Outcome.TheVariants as outcome
-use Rattle.metro_program.specs.declared.words.Action.TheVariants.{Bundle, Replay}
+use Rattle.metro_program.specs.declared.words.Action.{Action}
+use Rattle.metro_program.specs.declared.words.Action.TheVariants.{Replay}
 use Rattle.metro_program.specs.declared.words.Request.{Request}
 use Rattle.metro_program.specs.declared.words.WordFault.{WordFault}
 use Rattle.metro_program.specs.declared.words.WordFault.TheVariants as word
-use Rattle.metro_program.specs.Bundle.{bundle_plan, snapshot_plan}
 use Rattle.metro_program.specs.Lent.{Lent, Stood}
 use Rattle.metro_program.specs.Owes.{Comes, ComesTo, Given, Owes, Runs, Worked}
-use Rattle.metro_program.specs.Plans.{Plan, without_bytes}
-use Rattle.metro_program.specs.Progress.{Ends, Gave, HasLines, IsOwn, IsStart, Keeps, ReadsScript, Start}
+use Rattle.metro_program.specs.Plans.{Plan, taken_plan, without_bytes}
+use Rattle.metro_program.specs.Progress.{Ends, Fulfils, Gave, HasLines, IsOwn, IsStart, Keeps, ReadsScript, Start}
 use Rattle.metro_program.specs.Replay.{files_plan, replay_plan, unbuilt}
 use Rattle.metro_program.specs.Still.{action_plan, action_reads, word_outcome, words_plan, words_read}
 use Rattle.metro_program.proofs.HasDone.{keeps_fault, rose_from}
@@ -98,6 +98,10 @@ module _ (before after : Lent) (fault : CrawlFault) (found : Outcome) (is : foun
         apart = (looks.apart, ap (λ x. x.beside) script, ap (λ x. x.beside) out);
       }
 
+  -- of a command that reads the folder once and no script
+  pub untaken_owes : (plan : Snapshot → Plan) → Owes (λ tree bytes. taken_plan plan (crawled tree)) false before after found
+  untaken_owes plan = crawl_owes (λ tree bytes. taken_plan plan (crawled tree)) false (λ tree bytes. taken_plan plan) (λ tree bytes f. refl) (λ tree bytes. refl)
+
   pub crawl_reads : (ask : Ask) → ReadsScript ask before after found
   crawl_reads ask = record {
     lines = λ e tree files reading tells taken tellsS. record {
@@ -166,22 +170,21 @@ module _ (ask : Ask) (files : Snapshot) (before between after : Lent) (found : O
     cut = λ seven reading tells. (ends (start_of reading) (is_start reading tells)).cut seven;
   }
 
--- ---- a bundle
+-- ---- a command that reads the folder once and no script
 
-pub bundle_owes :
-    (ask : Ask) (files : Snapshot) (before after : Lent) (found : Outcome) → ((tree : Files) → Tells before.folder tree → crawled tree ≡ Ok files) → Keeps (snapshot_plan ask (Ok files)) found before.out after.out
-    → (found ≡ outcome.ReadFailed → ⊥) → (found ≡ outcome.WriteFailed → Rose before.out.faults after.out.faults) → after.folder.told ≡ before.folder.told → after.folder.beside ≡ before.folder.beside → after.script.beside ≡ before.script.beside
-    → after.out.beside ≡ before.out.beside → Owes (λ tree bytes. bundle_plan ask tree) false before after found
-bundle_owes ask files before after found takes keeps read write told apart_folder apart_script apart_out =
-    let k : (tree : Files) → Tells before.folder tree → Keeps (bundle_plan ask tree) found before.out after.out = λ tree tells. subst (λ x. Keeps (snapshot_plan ask x) found before.out after.out) (sym (takes tree tells)) keeps in
+pub files_owes :
+    (plan : Snapshot → Plan) (files : Snapshot) (before after : Lent) (found : Outcome) → ((tree : Files) → Tells before.folder tree → crawled tree ≡ Ok files) → Fulfils (plan files) found before.out after.out
+    → after.folder.told ≡ before.folder.told → after.folder.beside ≡ before.folder.beside → after.script.beside ≡ before.script.beside → Owes (λ tree bytes. taken_plan plan (crawled tree)) false before after found
+files_owes plan files before after found takes h told apart_folder apart_script =
+    let k : (tree : Files) → Tells before.folder tree → Keeps (taken_plan plan (crawled tree)) found before.out after.out = λ tree tells. subst (λ x. Keeps (taken_plan plan x) found before.out after.out) (sym (takes tree tells)) h.keeps in
     record {
       planned = λ tree bytes given. (k tree given.folder).planned;
       written = λ tree bytes given. (k tree given.folder).written;
       begun = λ tree bytes given. (k tree given.folder).begun;
-      read = λ e. absurd (read e);
-      write = write;
+      read = λ e. absurd (h.read e);
+      write = h.write;
       folder = told;
-      apart = (apart_folder, apart_script, apart_out);
+      apart = (apart_folder, apart_script, h.apart);
     }
 
 -- ---- a run
@@ -209,6 +212,7 @@ module _ (meaning : Files → List ℕ → Plan) (reads : Bool) (before after : 
   completes : (found : Outcome) → Owes meaning reads before after found → (tree : Files) (bytes : List ℕ) → Given reads before tree bytes → Worked reads before after → ComesTo (meaning tree bytes) (status_of found) before.out after.out
   completes outcome.Done o tree bytes given w = came outcome.Done o tree bytes given (inl (omega arith))
   completes (outcome.Refused fault) o tree bytes given w = came (outcome.Refused fault) o tree bytes given (inl (omega arith))
+  completes outcome.Faulty o tree bytes given w = came outcome.Faulty o tree bytes given (inl (omega arith))
   completes (outcome.BadWord at) o tree bytes given w = came (outcome.BadWord at) o tree bytes given (inl (omega arith))
   completes outcome.ReadFailed o tree bytes given w = elim (o.read refl) [ inl rose ↦ absurd (w.folder rose) | inr rose ↦ absurd (w.script rose.0 rose.1) ]
   completes outcome.WriteFailed o tree bytes given w = absurd (w.out (o.write refl))
@@ -217,12 +221,9 @@ module _ (meaning : Files → List ℕ → Plan) (reads : Bool) (before after : 
   completes (outcome.BadCommand command) o tree bytes given w = came (outcome.BadCommand command) o tree bytes given (inr (omega arith))
   completes (outcome.CutCommand command) o tree bytes given w = came (outcome.CutCommand command) o tree bytes given (inr (omega arith))
 
--- what is to be done means the plans of its command
-pub bundle_request : (request : Request) (before after : Lent) (found : Outcome) → request.action ≡ Bundle → Owes (λ tree bytes. bundle_plan request.ask tree) false before after found → Owes (words_plan (Ok request)) (words_read (Ok request)) before after found
-bundle_request request before after found e o = subst (λ a. Owes (λ tree bytes. action_plan a request.ask tree bytes) (action_reads a) before after found) (sym e) o
-
-pub replay_request : (request : Request) (before after : Lent) (found : Outcome) → request.action ≡ Replay → Owes (replay_plan request.ask) true before after found → Owes (words_plan (Ok request)) (words_read (Ok request)) before after found
-replay_request request before after found e o = subst (λ a. Owes (λ tree bytes. action_plan a request.ask tree bytes) (action_reads a) before after found) (sym e) o
+-- what is to be done means the plans of its action
+pub action_request : (action : Action) (request : Request) (before after : Lent) (found : Outcome) → request.action ≡ action → Owes (action_plan action request.ask) (action_reads action) before after found → Owes (words_plan (Ok request)) (words_read (Ok request)) before after found
+action_request action request before after found e o = subst (λ a. Owes (action_plan a request.ask) (action_reads a) before after found) (sym e) o
 
 -- words that ask for nothing
 pub refused_owes : (fault : WordFault) (lent : Lent) → Owes (words_plan (Err fault)) false lent lent (word_outcome fault)

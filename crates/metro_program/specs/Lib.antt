@@ -8,7 +8,10 @@ pub mod Plans
 pub mod Replay
 pub mod Histories
 pub mod Replays
+pub mod First
 pub mod Bundle
+pub mod Deps
+pub mod Check
 pub mod Still
 pub mod Lent
 pub mod Progress

@@ -14,7 +14,7 @@ use Rattle.mt_script.specs.declared.command.Command.TheVariants.{Build, Rescan}
 use Rattle.mt_script.specs.declared.fault.ScriptFault.{ScriptFault}
 use Rattle.mt_report.specs.Outcomes.{IsPlanned, script_outcome, status_of}
 use Rattle.mt_report.specs.declared.outcome.Outcome.{Outcome}
-use Rattle.mt_report.specs.declared.outcome.Outcome.TheVariants.{ReadFailed}
+use Rattle.mt_report.specs.declared.outcome.Outcome.TheVariants.{ReadFailed, WriteFailed}
 use Rattle.metro_program.specs.States.{State}
 use Rattle.metro_program.specs.Builds.{Answer, Step}
 use Rattle.metro_program.specs.Lent.{Lent}
@@ -125,6 +125,14 @@ pub record Keeps (plan : Plan) (outcome : Outcome) (before after : Seen (List �
   pub planned : IsPlanned outcome → outcome ≡ plan.outcome
   pub written : IsPlanned outcome → Wrote before after plan.bytes
   pub begun : Stopped before after plan.bytes
+
+-- a run that reads a folder once and no script: it keeps to the plan of the files, each fault has its cause, and what the output tells beside stays
+pub record Fulfils (plan : Plan) (outcome : Outcome) (before after : Seen (List ℕ)) : Type 0 where
+  pub keeps : Keeps plan outcome before after
+  pub read : outcome ≢ ReadFailed
+  pub write : outcome ≡ WriteFailed → Rose before.faults after.faults
+  pub apart : after.beside ≡ before.beside
+  pub own : IsOwn outcome
 
 -- what a replay owes from its start on
 pub record Ends (start : Start) (outcome : Outcome) (after : Lent) : Type 0 where

@@ -5,22 +5,28 @@ use Rattle.mt_files.specs.Asks.{Ask}
 use Rattle.mt_report.specs.declared.outcome.Outcome.{Outcome}
 use Rattle.mt_report.specs.declared.outcome.Outcome.TheVariants as outcome
 use Rattle.metro_program.specs.declared.words.Action.{Action}
-use Rattle.metro_program.specs.declared.words.Action.TheVariants.{Bundle, Replay}
+use Rattle.metro_program.specs.declared.words.Action.TheVariants.{Bundle, Deps, Check, Replay}
 use Rattle.metro_program.specs.declared.words.Request.{Request}
 use Rattle.metro_program.specs.declared.words.WordFault.{WordFault}
 use Rattle.metro_program.specs.declared.words.WordFault.TheVariants as word
 use Rattle.metro_program.specs.Bundle.{bundle_plan}
+use Rattle.metro_program.specs.Check.{check_plan}
+use Rattle.metro_program.specs.Deps.{deps_plan}
 use Rattle.metro_program.specs.Plans.{Plan, without_bytes}
 use Rattle.metro_program.specs.Replay.{replay_plan}
 
 -- the plan of what is to be done
 abbrev pub action_plan : Action → Ask → Files → List ℕ → Plan
 action_plan Bundle ask tree script = bundle_plan ask tree
+action_plan Deps ask tree script = deps_plan ask tree
+action_plan Check ask tree script = check_plan ask tree
 action_plan Replay ask tree script = replay_plan ask tree script
 
 -- whether it reads a script
 abbrev pub action_reads : Action → Bool
 action_reads Bundle = false
+action_reads Deps = false
+action_reads Check = false
 action_reads Replay = true
 
 -- how a run ends at words that ask for nothing

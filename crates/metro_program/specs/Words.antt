@@ -8,7 +8,7 @@ use Rattle.mt_path.specs.Parse.{parsed}
 use Rattle.mt_path.specs.Names.{is_root}
 use Rattle.mt_files.specs.Asks.{Ask}
 use Rattle.metro_program.specs.declared.words.Action.{Action}
-use Rattle.metro_program.specs.declared.words.Action.TheVariants.{Bundle, Replay}
+use Rattle.metro_program.specs.declared.words.Action.TheVariants.{Bundle, Deps, Check, Replay}
 use Rattle.metro_program.specs.declared.words.Request.{Request}
 use Rattle.metro_program.specs.declared.words.WordFault.{WordFault}
 use Rattle.metro_program.specs.declared.words.WordFault.TheVariants.{BadWord}
@@ -43,7 +43,11 @@ asked action (Err fault) = Err fault
 
 -- what the first word asks to do
 abbrev pub action_of : List ℕ → Option Action
-action_of word = if bytes_eq word (codes "bundle") then Some Bundle else (if bytes_eq word (codes "replay") then Some Replay else None)
+action_of word =
+    if bytes_eq word (codes "bundle") then Some Bundle
+    else (if bytes_eq word (codes "deps") then Some Deps
+    else (if bytes_eq word (codes "check") then Some Check
+    else (if bytes_eq word (codes "replay") then Some Replay else None)))
 
 -- what the words ask for, or the number of the first bad word, from 1
 abbrev pub words_of : List (List ℕ) → Result Request WordFault

@@ -1,19 +1,18 @@
 //! The run of `bundle`.
-ghost use Rattle.std.specs.Prelude.{◌≡◌, ◌≤◌, false, Ok};
+ghost use Rattle.std.specs.Prelude.{◌≤◌, false, Ok};
 ghost use Rattle.std.specs.FinMap as map;
-ghost use Rattle.mt_io.specs.Causes.{Rose};
 ghost use Rattle.mt_io.specs.Seen.{Seen};
 ghost use Rattle.mt_io.specs.Told.{Reading};
 ghost use Rattle.mt_files.specs.Crawl.{max_files};
-ghost use Rattle.metro_program.specs.Builds.{fresh_build};
-ghost use Rattle.metro_program.specs.Bundle.{build_plan, bundle_plan};
+ghost use Rattle.mt_revision.specs.Revisions.{bundle_of};
+ghost use Rattle.metro_program.specs.Bundle.{bundle_plan};
+ghost use Rattle.metro_program.specs.First.{built_plan, snapshot_plan};
 ghost use Rattle.metro_program.specs.Lent.{lent};
 ghost use Rattle.metro_program.specs.Owes.{Owes};
-ghost use Rattle.metro_program.specs.Progress.{IsOwn, Keeps};
-ghost use Rattle.metro_program.specs.States.{opened};
+ghost use Rattle.metro_program.specs.Progress.{Fulfils, IsOwn};
 
 use crate::ask::BuildAsk;
-use crate::state::{NextBuild, ReplayState};
+use crate::state::{NextBuild, first_build};
 use mt_files::{FileMap, crawl};
 use mt_io::{Folder, Sink};
 use mt_report::Outcome;
@@ -22,11 +21,7 @@ use std::alloc::Global;
 
 /// Writes the bundle of a build.
 fn bundle_build<O: Sink>(build: &NextBuild, out: &mut O) -> Outcome
-    ensures keeps { Keeps (build_plan (Ok build.now)) result (O.seen out.old) (O.seen out.new) }
-    ensures read { result ≡ Outcome.ReadFailed → ⊥ }
-    ensures write { result ≡ Outcome.WriteFailed → Rose (O.seen out.old).faults (O.seen out.new).faults }
-    ensures apart { (O.seen out.new).beside ≡ (O.seen out.old).beside }
-    ensures own { IsOwn result }
+    ensures fulfils { Fulfils (built_plan bundle_of (Ok build.now)) result (O.seen out.old) (O.seen out.new) }
 {
     match write_bundle(&build.revision, out) {
         Ok(()) => Outcome::Done,
@@ -37,14 +32,9 @@ fn bundle_build<O: Sink>(build: &NextBuild, out: &mut O) -> Outcome
 /// Writes the bundle of the first build of a snapshot.
 fn bundle_files<O: Sink>(alloc: Global, ask: BuildAsk, files: FileMap, out: &mut O) -> Outcome
     requires few { map.len files ≤ max_files }
-    ensures keeps { Keeps (build_plan (fresh_build (opened ask files))) result (O.seen out.old) (O.seen out.new) }
-    ensures read { result ≡ Outcome.ReadFailed → ⊥ }
-    ensures write { result ≡ Outcome.WriteFailed → Rose (O.seen out.old).faults (O.seen out.new).faults }
-    ensures apart { (O.seen out.new).beside ≡ (O.seen out.old).beside }
-    ensures own { IsOwn result }
+    ensures fulfils { Fulfils (snapshot_plan bundle_of ask files) result (O.seen out.old) (O.seen out.new) }
 {
-    let state = ReplayState::new(alloc, ask, files);
-    match state.build(alloc) {
+    match first_build(alloc, ask, files) {
         Ok(build) => bundle_build(&build, out),
         Err(fault) => Outcome::from(fault),
     }

@@ -4,6 +4,9 @@
 mod ask;
 mod build;
 mod bundle;
+mod check;
+mod deps;
+mod ending;
 mod graph;
 mod real;
 mod replay;

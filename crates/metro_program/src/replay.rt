@@ -1,5 +1,5 @@
 //! The run of `replay`.
-ghost use Rattle.std.specs.Prelude.{◌≡◌, ◌≤◌, ◌⊎◌, true, None, OnOk, IfErr};
+ghost use Rattle.std.specs.Prelude.{◌≡◌, ◌≤◌, ◌⊎◌, ◌+◌, true, None, OnOk, IfErr};
 ghost use Rattle.std.specs.FinMap as map;
 ghost use Rattle.mt_io.specs.Causes.{Rose};
 ghost use Rattle.mt_io.specs.Files.{Files};
@@ -71,6 +71,7 @@ fn turn<F: Folder, I: Source, O: Sink>(
         → HasDone start state.old reader.old (I.seen script.old).told (O.seen out.old)
         → IfErr result (λ outcome. Ends start outcome (lent (F.seen folder.new) (I.seen script.new) (O.seen out.new))) }
     ensures going { OnOk result (reader.new.fault ≡ None) }
+    ensures counted { OnOk result (reader.new.count ≡ reader.old.count + 1) }
     ensures read { IfErr result (λ outcome. outcome ≡ Outcome.ReadFailed
         → Rose (F.seen folder.old).faults (F.seen folder.new).faults ⊎ Rose (I.seen script.old).faults (I.seen script.new).faults) }
     ensures write { IfErr result (λ outcome. outcome ≡ Outcome.WriteFailed → Rose (O.seen out.old).faults (O.seen out.new).faults) }

@@ -235,6 +235,15 @@ impl ReplayState {
     }
 }
 
+/// The first build of a snapshot, or its first fault.
+pub fn first_build(alloc: Global, ask: BuildAsk, files: FileMap) -> Result<NextBuild, BuildFault>
+    requires few { map.len files ≤ max_files }
+    ensures exact { (result ≡ Err BuildFault.NoMemory) ⊎ (result ≡ fresh_build (opened ask files)) }
+{
+    let state = ReplayState::new(alloc, ask, files);
+    state.build(alloc)
+}
+
 /// What is kept of a file of this path and these bytes.
 fn put_entry(alloc: Global, path: &Path, bytes: Bytes) -> Result<Entry, AllocError>
     ensures entry { IfOk result (λ entry. entry ≡ entry_of path.now bytes) }

@@ -5,6 +5,8 @@ ghost use Rattle.mt_files.specs.Asks.{Ask};
 ghost use Rattle.mt_script.specs.Scripts.{script_of};
 ghost use Rattle.metro_program.specs.Words.{words_of};
 ghost use Rattle.metro_program.specs.Bundle.{Bundles};
+ghost use Rattle.metro_program.specs.Check.{Checks};
+ghost use Rattle.metro_program.specs.Deps.{PrintsGraph};
 ghost use Rattle.metro_program.specs.Owes.{Comes, Owes, Runs};
 ghost use Rattle.metro_program.specs.Progress.{ReadsScript};
 ghost use Rattle.metro_program.specs.Replays.{Replays};
@@ -14,6 +16,8 @@ ghost use Rattle.mt_io.specs.Seen.{Wrote};
 ghost use Rattle.metro_program.specs.Lent.{Stood, lent};
 
 use crate::bundle::run_bundle;
+use crate::check::run_check;
+use crate::deps::run_deps;
 use crate::replay::run_replay;
 use crate::words::{Action, Request, read_words};
 use mt_io::{Folder, Gate, Sink, Source, Store, send_all};
@@ -42,6 +46,8 @@ fn run<F: Folder, I: Source, O: Sink>(
     let Request { action, ask } = request;
     match action {
         Action::Bundle => run_bundle(alloc, ask, folder, out),
+        Action::Deps => run_deps(alloc, ask, folder, out),
+        Action::Check => run_check(alloc, ask, folder, out),
         Action::Replay => run_replay(alloc, ask, folder, script, out),
     }
 }
@@ -86,9 +92,10 @@ fn tell<E: Sink>(alloc: Global, outcome: Outcome, log: &mut E) -> Outcome
 
 /// Runs a command over the objects that are handed in, and answers its status.
 ///
-/// `bundle` with one entry reads the folder, and writes the bundle of the entry to `out`. `replay` with one entry reads
-/// the folder and then the script, whose commands change the files that were read; it builds at first and at each `build`,
-/// and writes a line for each build to `out`. Neither the store nor the gate is called.
+/// Each command has one entry, and reads the folder. `bundle` writes the bundle of the entry to `out`, `deps` a line for each
+/// of its modules, and `check` a line for each of their faults. `replay` then reads the script, whose commands change the
+/// files that were read; it builds at first and at each `build`, and writes a line for each build to `out`. Neither the store
+/// nor the gate is called.
 #[allow(clippy::too_many_arguments)]
 pub fn metro_still<
     R: Threads + Sync,
@@ -117,6 +124,12 @@ pub fn metro_still<
     ensures bundle { (ask : Ask) (tree : Files) (bytes : List ℕ)
         → words_of words.now ≡ Ok (record { action = Action.Bundle; ask = ask })
         → Bundles ask tree (words_plan (words_of words.now) tree bytes) }
+    ensures deps { (ask : Ask) (tree : Files) (bytes : List ℕ)
+        → words_of words.now ≡ Ok (record { action = Action.Deps; ask = ask })
+        → PrintsGraph ask tree (words_plan (words_of words.now) tree bytes) }
+    ensures check { (ask : Ask) (tree : Files) (bytes : List ℕ)
+        → words_of words.now ≡ Ok (record { action = Action.Check; ask = ask })
+        → Checks ask tree (words_plan (words_of words.now) tree bytes) }
     ensures replay { (ask : Ask) (tree : Files) (bytes : List ℕ)
         → words_of words.now ≡ Ok (record { action = Action.Replay; ask = ask })
         → Replays ask tree (script_of bytes) (words_plan (words_of words.now) tree bytes) }

@@ -14,6 +14,10 @@ use thiserror::Error;
 pub enum Action {
     /// Its bundle is to be written.
     Bundle,
+    /// The graph of its modules is to be written.
+    Deps,
+    /// All faults of its modules are to be written.
+    Check,
     /// It is to be built as the commands of a script change the files.
     Replay,
 }
@@ -133,6 +137,8 @@ fn read_action(word: &str) -> Option<Action>
 {
     match word {
         "bundle" => Some(Action::Bundle),
+        "deps" => Some(Action::Deps),
+        "check" => Some(Action::Check),
         "replay" => Some(Action::Replay),
         _ => None,
     }

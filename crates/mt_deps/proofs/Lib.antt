@@ -1,4 +1,4 @@
-pub mod Ascending
+pub mod Apart
 pub mod Cuts
 pub mod Gathers
 pub mod ListSteps

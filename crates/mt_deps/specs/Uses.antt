@@ -11,7 +11,7 @@ IsUseCut text e = IsCharBoundary text e.start × IsCharBoundary text e.end × Is
 abbrev pub IsMarkText : Mark → Type 0
 IsMarkText m = IsUtf8 m.name × IsUtf8 m.local
 
--- the ranges begin one after another from a place on
-abbrev pub AreAscending : ℕ → List Edit → Type 0
-AreAscending at [] = Unit {0}
-AreAscending at (e ∷ es) = (at ≤ e.start) × AreAscending e.start es
+-- the ranges ascend from a place on, and none overlaps the next
+abbrev pub AreApart : ℕ → List Edit → Type 0
+AreApart at [] = Unit {0}
+AreApart at (e ∷ es) = (at ≤ e.start) × (e.start ≤ e.end) × AreApart e.end es

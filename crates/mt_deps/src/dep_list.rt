@@ -32,7 +32,7 @@ impl DepList {
         &self.deps
     }
 
-    /// The ranges that are to be replaced, ascending by their places.
+    /// The ranges that are to be replaced, ascending by their places. None overlaps the next.
     pub fn uses(&self) -> &List<Use>
         ensures value { result.now ≡ self.now.uses }
     {

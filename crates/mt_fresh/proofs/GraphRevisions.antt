@@ -1,5 +1,5 @@
 -- The modules that a revision has of a graph.
-use Rattle.std.proofs.Common.{◌≡◌, ◌<◌, ◌∙◌, ℕ, Bool, true, false, cond, List, [], ◌∷◌, map, length, nat_lt, Option, Some, None, Result, Ok, Err, IfOk, refl, ap, sym, subst}
+use Rattle.std.proofs.Common.{◌≡◌, ◌∙◌, ℕ, Bool, true, false, cond, List, [], ◌∷◌, map, length, nat_lt, Option, Some, None, Result, Ok, Err, IfOk, refl, ap, sym, subst}
 use Rattle.std.specs.List.{AllByRecursion, cons_option, filter_map, list_all}
 use Rattle.std.specs.List.Sorted.{IsStrictlySortedBy}
 use Rattle.std.specs.Option.{option_and_then, option_map, option_map_or, option_or}
@@ -18,7 +18,7 @@ use Rattle.mt_tokens.specs.declared.source.SourceFault.{SourceFault}
 use Rattle.mt_package.specs.declared.options.Options.{Options}
 use Rattle.mt_files.specs.Asks.{Ask}
 use Rattle.mt_files.specs.Snapshots.{Snapshot, source_at}
-use Rattle.mt_files.specs.Edges.{kind_of, target_of, targets_at}
+use Rattle.mt_files.specs.Edges.{kind_of, target_of}
 use Rattle.mt_files.specs.Fresh.{all_faults, decided}
 use Rattle.mt_files.specs.Reach.{reach}
 use Rattle.mt_files.specs.declared.build_fault.BuildFault.{BuildFault}

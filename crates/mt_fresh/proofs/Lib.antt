@@ -1,3 +1,4 @@
 pub mod Visits
+pub mod Calls
 pub mod FreshGraph
 pub mod GraphRevisions

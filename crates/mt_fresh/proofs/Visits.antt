@@ -1,24 +1,21 @@
 -- A traversal visits exactly the modules to which the seeds lead.
-use Rattle.std.proofs.Common.{inl, inr, ◌⊎◌, ◌≡◌, ◌∙◌, ◌&&◌, ◌||◌, ℕ, Bool, true, false, not, cond, List, [], ◌∷◌, ◌++◌, map, filter, Option, Some, None, is_some, refl, ap, sym, subst}
-use Rattle.std.specs.List.{All, Contains, cons_option, filter_map, fold, list_any}
+use Rattle.std.proofs.Common.{inl, inr, ◌⊎◌, ◌≡◌, ◌∙◌, ◌&&◌, ℕ, Bool, true, false, not, cond, List, [], ◌∷◌, map, Option, Some, None, is_some, refl, ap, sym, subst}
+use Rattle.std.specs.List.{Contains, cons_option, filter_map}
 use Rattle.std.specs.List.Sorted.{IsStrictlySortedBy}
 use Rattle.std.specs.Option.{option_map, unwrap_or}
 use Rattle.std.specs.Ordering.{nat_cmp, eq_by_cmp}
 use Rattle.std.specs.Cmp.Lexicographic.{slice_cmp, nat_list_cmp_total}
-use Rattle.std.specs.FinMap.{FinMap, contains_key, contains_key-keys, empty, entries, from_entries, get, get-empty, get-insert, get-remove, insert, keys, remove}
+use Rattle.std.specs.FinMap.{FinMap, contains_key, contains_key-keys, empty, entries, get, get-empty, get-insert, get-remove, insert, keys, remove}
 use Rattle.std.specs.Str.{bytes_eq}
 use Rattle.std.proofs.lemmas.Bool.{cases_Bool, and_parts, false≢true, not-true, cond-true, cond-false}
 use Rattle.std.proofs.lemmas.Map.Text.{is_eq-slice_cmp}
-use Rattle.std.proofs.lemmas.Slice.Eq.{bytes_eq-Decides}
-use Rattle.mt_containers.specs.Walks.{IsReached}
-use Rattle.mt_containers.specs.Explorations.{HasRow, IsExplored, IsKnown, IsTurn}
+use Rattle.mt_containers.specs.Explorations.{IsExplored, IsKnown}
 use Rattle.mt_containers.proofs.Explorations.{explored_all, explored_empty, explored_turn}
 use Rattle.mt_containers.proofs.Members.{any_contains, contains_any, contains_cases, contains_filter, contains_head, contains_none, contains_tail, filter_contains, same_or_apart, tie_decides}
 use Rattle.mt_containers.proofs.Seens.{texts_antisymmetric}
 use Rattle.mt_containers.proofs.Tables.{entries_by}
 use Rattle.mt_package.specs.declared.options.Options.{Options}
 use Rattle.mt_files.specs.Snapshots.{Snapshot, has_source, source_at}
-use Rattle.mt_files.specs.Edges.{edges}
 use Rattle.mt_files.specs.PathSets.{with_paths}
 use Rattle.mt_files.specs.Resolve.{file_of}
 use Rattle.mt_files.specs.Fresh.{ascending}
@@ -29,9 +26,9 @@ use Rattle.mt_files.proofs.Ascending.{has_ascending}
 use Rattle.mt_files.proofs.PathSets.{keys-with_paths}
 use Rattle.mt_files.proofs.PathLists.{contains_has, has_contains, has_self, same_path}
 use Rattle.mt_graph.specs.Founds.{files_of, found_at, found_in, links_of, made_of}
-use Rattle.mt_graph.specs.Explored.{IsExploration, Known, explored, explored_paths, unknown, unknown_edges}
+use Rattle.mt_graph.specs.Explored.{Known, explored, explored_paths, unknown, unknown_edges}
 use Rattle.mt_graph.specs.declared.found.Found.{Found}
-use Rattle.mt_graph.proofs.Explored.{explored_alone, explored_all as all_explored, explored_source, explored_whole, paths_ascending, reached_source}
+use Rattle.mt_graph.proofs.Explored.{explored_alone, explored_all as all_explored, explored_source, paths_ascending, reached_source}
 use Rattle.mt_graph.proofs.Founds.{links_lead}
 use Rattle.mt_fresh.specs.Visits.{VisitMap, found_of, is_new, visit_at, visit_of, visits_of, waiting_with, waiting_with_all}
 use Rattle.mt_fresh.specs.declared.traversal.Visit.{Visit}

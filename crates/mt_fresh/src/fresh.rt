@@ -7,16 +7,20 @@ ghost use Rattle.std.specs.Cmp.Lexicographic.{slice_cmp};
 ghost use Rattle.std.specs.FinMap as map;
 ghost use Rattle.std.specs.Str.{bytes_eq};
 ghost use Rattle.mt_files.specs.Snapshots.{has_source};
-ghost use Rattle.mt_files.specs.Fresh.{all_faults};
+ghost use Rattle.mt_files.specs.Fresh.{all_faults, max_modules};
+ghost use Rattle.mt_files.specs.Reach.{reach};
 ghost use Rattle.mt_graph.specs.Explored.{explored};
 ghost use Rattle.mt_graph.specs.Founds.{paths_of};
 ghost use Rattle.mt_graph.specs.Graphs.{fresh_graph};
+ghost use Rattle.mt_fresh.specs.Calls.{calls_in, calls_made, dynamic_calls};
 
 use crate::traversal::Traversal;
 use mt_files::{BuildFault, FileMap};
-use mt_graph::{Explorer, FaultList, FoundList, Graph, faults_found, judge};
+use mt_graph::{Explorer, FaultList, Found, FoundList, Graph, MAX_MODULES, faults_found, judge};
 use mt_package::Options;
 use mt_path::{Path, PathList, PathSet};
+use mt_tokens::{Shared, SourceFault};
+use mt_transform::Output;
 use std::alloc::{AllocError, Global};
 
 /// The entries that are sources.
@@ -69,19 +73,71 @@ pub fn traverse(
     judge(alloc, entries, founds)
 }
 
-/// All faults of a snapshot from its entries, by ascending path and place, or too many modules alone. Refused only where
-/// memory runs out.
+/// How many calls of what a source became name what only a run can tell: none after a refusal.
+fn calls_made(made: &Result<Shared<Output>, SourceFault>) -> u32
+    ensures exact { result ≡ calls_made made.now }
+{
+    match made {
+        Ok(output) => output.dynamic(),
+        Err(_) => 0,
+    }
+}
+
+/// How many calls in the modules found name what only a run can tell.
+fn calls_in(founds: &[Found]) -> u64
+    requires few { length founds.now ≤ max_modules }
+    ensures exact { result ≡ calls_in founds.now }
+{
+    let mut calls = 0;
+    for found in founds {
+        calls += calls_made(&found.made) as u64;
+    }
+    calls
+}
+
+/// How many calls in the modules found name what only a run can tell. None is counted where there are too many modules.
+fn calls_of(founds: &FoundList) -> u64
+    ensures exact { length founds.now ≤ max_modules → result ≡ calls_in founds.now }
+{
+    if founds.len() > MAX_MODULES {
+        return 0;
+    }
+    calls_in(founds.as_slice())
+}
+
+/// All faults of a snapshot from its entries, and how many modules and dynamic calls it has.
+#[derive(Drop)]
+pub struct AllFaults {
+    /// All faults, by ascending path and place; too many modules alone.
+    pub list: FaultList,
+    /// How many modules the entries reach.
+    pub modules: usize,
+    /// How many calls in these modules name what only a run can tell. None is counted where there are too many modules.
+    pub calls: u64,
+}
+
+/// All faults of a snapshot from its entries, by ascending path and place, or too many modules alone; and how many modules
+/// the entries reach, and how many of the calls in these name what only a run can tell. Refused only where memory runs out.
 pub fn faults(
     alloc: Global,
     files: &FileMap,
     options: &Options,
     entries: &[Path],
-) -> Result<FaultList, AllocError>
+) -> Result<AllFaults, AllocError>
     requires some { 1 ≤ length entries.now }
     requires most { length entries.now ≤ 16 }
     requires distinct { IsDistinct bytes_eq entries.now }
-    ensures exact { IfOk result (λ faults. faults ≡ all_faults (record { options = options.now; entries = entries.now }) files.now) }
+    ensures exact { IfOk result (λ faults. faults.list ≡ all_faults (record { options = options.now; entries = entries.now }) files.now) }
+    ensures modules { IfOk result (λ faults. faults.modules ≡ length (reach (record { options = options.now; entries = entries.now }) files.now)) }
+    ensures calls { IfOk result (λ faults. faults.modules ≤ max_modules → faults.calls ≡ dynamic_calls (record { options = options.now; entries = entries.now }) files.now) }
 {
     let founds = explore_entries(alloc, files, options, entries)?;
-    faults_found(alloc, entries, founds)
+    let modules = founds.len();
+    let calls = calls_of(&founds);
+    let list = faults_found(alloc, entries, founds)?;
+    Ok(AllFaults {
+        list,
+        modules,
+        calls,
+    })
 }

@@ -1,3 +1,4 @@
 pub mod Digests
 pub mod Outcomes
 pub mod Reports
+pub mod Listings

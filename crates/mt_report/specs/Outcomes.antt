@@ -24,6 +24,7 @@ use Rattle.mt_report.specs.declared.outcome.Limit.TheVariants.{File, Files, Fold
 abbrev pub status_of : Outcome → ℕ
 status_of outcome.Done = 0
 status_of (outcome.Refused fault) = 1
+status_of outcome.Faulty = 1
 status_of (outcome.BadWord at) = 2
 status_of outcome.ReadFailed = 3
 status_of outcome.WriteFailed = 4
@@ -48,6 +49,7 @@ numbered_line what number = codes "metro: " ++ (what ++ (codes " " ++ (decimal n
 -- the line of an outcome on the log
 abbrev pub line_of : Outcome → List ℕ
 line_of outcome.Done = []
+line_of outcome.Faulty = []
 line_of (outcome.Refused fault) = codes "metro: " ++ (text_of fault ++ codes "\n")
 line_of (outcome.BadWord at) = numbered_line (codes "word") at
 line_of outcome.ReadFailed = codes "metro: read failed\n"

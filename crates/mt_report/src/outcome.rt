@@ -32,6 +32,8 @@ pub enum Outcome {
     Done,
     /// The build was refused.
     Refused(BuildFault),
+    /// Faults were found, and each of them is written.
+    Faulty,
     /// The words aren't those of a command: the number of the first bad word, from 1.
     BadWord(u32),
     /// The folder or the script couldn't be read.
@@ -55,7 +57,7 @@ impl Outcome {
     {
         match self {
             Outcome::Done => 0,
-            Outcome::Refused(_) => 1,
+            Outcome::Refused(_) | Outcome::Faulty => 1,
             Outcome::BadWord(_) => 2,
             Outcome::ReadFailed => 3,
             Outcome::WriteFailed => 4,
@@ -65,12 +67,13 @@ impl Outcome {
         }
     }
 
-    /// The line on the log, with its line feed; empty where the run is done. Refused only where memory runs out.
+    /// The line on the log, with its line feed; empty where what was asked for is written, be it faults or not. Refused only
+    /// where memory runs out.
     pub fn line(&self, alloc: Global) -> Result<Text, AllocError>
         ensures line { IfOk result (λ text. text ≡ line_of self.now) }
     {
         match self {
-            Outcome::Done => Ok(Text::new(alloc)),
+            Outcome::Done | Outcome::Faulty => Ok(Text::new(alloc)),
             Outcome::Refused(fault) => refused_line(alloc, fault),
             Outcome::BadWord(at) => numbered_line(alloc, "word", *at),
             Outcome::BadCommand(command) => numbered_line(alloc, "script command", *command),

@@ -158,8 +158,9 @@ module _ (ask : Ask) (r : Revision) (numbering : List (List ℕ)) (files : Snaps
       ∙ same_modules ask.options numbering files (reach ask files) (by_number ask numbering files) content.numbered (all_from (has_path numbering) (by_number ask numbering files) (λ q h. (has_filter (has_path (reach ask files)) numbering q h).0)) there (λ p h. (has_filter (has_path (reach ask files)) numbering p h).1) n
       ∙ sym (get-from_entries nat_cmp_total (modules_of ask.options numbering files (by_number ask numbering files)) n))
 
-  listed : IsDistinct bytes_eq numbering → entries r.modules ≡ modules_of ask.options numbering files (by_number ask numbering files)
-  listed d =
+  -- by ascending number
+  pub content_listed : IsDistinct bytes_eq numbering → entries r.modules ≡ modules_of ask.options numbering files (by_number ask numbering files)
+  content_listed d =
       ap entries ordered
       ∙ entries_by nat_cmp_total (modules_of ask.options numbering files (by_number ask numbering files))
       (sorted_modules ask.options numbering files (by_number ask numbering files) (IsStrictlySortedBy-filter (by ask.options numbering files) (has_path (reach ask files)) numbering (sorted_numbering ask.options numbering files d)))
@@ -168,6 +169,6 @@ module _ (ask : Ask) (r : Revision) (numbering : List (List ℕ)) (files : Snaps
   pub content_bundle : IsDistinct bytes_eq numbering → bundle_of r ≡ bundle_at ask numbering files
   content_bundle d =
       ap (λ z. prelude z ++ flat_map (λ e. text_in z e.0 e.1) (entries r.modules) ++ flat_map start_of r.entries) content.dev
-      ∙ ap (λ es. prelude ask.options.dev ++ flat_map (λ e. text_in ask.options.dev e.0 e.1) es ++ flat_map start_of r.entries) (listed d)
+      ∙ ap (λ es. prelude ask.options.dev ++ flat_map (λ e. text_in ask.options.dev e.0 e.1) es ++ flat_map start_of r.entries) (content_listed d)
       ∙ ap (λ t. prelude ask.options.dev ++ t ++ flat_map start_of r.entries) (texts_of_paths ask.options numbering files (by_number ask numbering files))
       ∙ ap (λ ns. prelude ask.options.dev ++ flat_map (text_at ask.options numbering files) (by_number ask numbering files) ++ flat_map start_of ns) content.entries

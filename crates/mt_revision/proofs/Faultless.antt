@@ -48,7 +48,7 @@ reached_member ask files q h = in_order (ask.entries ++ reach ask files) q (appe
 
 -- ---- no faults
 
-none_both : {A : Type 0} (xs ys : List A) → xs ++ ys ≡ [] → (xs ≡ []) × (ys ≡ [])
+pub none_both : {A : Type 0} (xs ys : List A) → xs ++ ys ≡ [] → (xs ≡ []) × (ys ≡ [])
 none_both [] ys h = (refl, h)
 none_both (x ∷ xs) ys h = cc
 

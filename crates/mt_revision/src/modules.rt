@@ -88,6 +88,13 @@ impl ModuleMap {
         self.by_number.at_least(number)
     }
 
+    /// The same modules, to be gone over by ascending number.
+    pub fn by_number(&self) -> &NumberMap<Shared<Module>>
+        ensures same { result.now ≡ self.now }
+    {
+        &self.by_number
+    }
+
     /// Keeps a module under a number, in place of another one. Refused only where memory runs out, and the modules are
     /// then as before.
     pub fn insert(&mut self, number: u32, kept: Shared<Module>) -> Result<(), AllocError>

@@ -1,3 +1,4 @@
 pub mod Bodies
 pub mod Outputs
+pub mod Ranges
 pub mod Transformed

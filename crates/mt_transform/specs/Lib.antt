@@ -1,4 +1,5 @@
 pub mod Drafts
 pub mod OutputValues
 pub mod Outputs
+pub mod Ranges
 pub mod Readings

@@ -90,8 +90,8 @@ fn build_output(
     })
 }
 
-/// What a source becomes, or its first refusal: first what isn't UTF-8, then what breaks the grammar or isn't read yet,
-/// then more than `MAX_DEPENDENCIES` distinct dependencies.
+/// What a source becomes, or its first refusal: first what isn't UTF-8, then what breaks the grammar, or JSON that isn't
+/// read; then an import or export without a form, then more than `MAX_DEPENDENCIES` distinct dependencies.
 #[tactic(auto, using(crate::proofs::Outputs::output_sure))]
 pub fn transform(
     alloc: Global,

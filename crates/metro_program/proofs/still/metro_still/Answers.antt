@@ -1,10 +1,16 @@
-use Rattle.metro_program.proofs.Asked.{words_bundle, words_replay}
+use Rattle.metro_program.proofs.Asked.{words_bundle, words_check, words_deps, words_replay}
 use Rattle.metro_program.specs.Words.{words_of}
 use Rattle.metro_program.proofs.Owes.{runs_of}
 use Rattle.metro_program.proofs.still.metro_still.Goals as goal
 
 pub returns-clause-bundle : goal.returns-clause-bundle
 returns-clause-bundle g c = λ ask tree bytes e. words_bundle c.args.words.now ask tree bytes e
+
+pub returns-clause-deps : goal.returns-clause-deps
+returns-clause-deps g c = λ ask tree bytes e. words_deps c.args.words.now ask tree bytes e
+
+pub returns-clause-check : goal.returns-clause-check
+returns-clause-check g c = λ ask tree bytes e. words_check c.args.words.now ask tree bytes e
 
 pub returns-clause-replay : goal.returns-clause-replay
 returns-clause-replay g c = λ ask tree bytes e. words_replay c.args.words.now ask tree bytes e

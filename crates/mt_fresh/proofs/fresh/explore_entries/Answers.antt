@@ -1,8 +1,7 @@
-use Rattle.std.proofs.Common.{◌≡◌, ◌∙◌, IfOk, ap, sym, subst}
-use Rattle.std.specs.FinMap.{empty}
+use Rattle.std.proofs.Common.{◌∙◌, ap}
 use Rattle.std.proofs.lemmas.Result.{IfOk-weaker}
 use Rattle.mt_graph.specs.Explored.{explored}
-use Rattle.mt_fresh.proofs.FreshGraph.{founds_ascending, seeds_are_sources}
+use Rattle.mt_fresh.proofs.FreshGraph.{seeds_are_sources}
 use Rattle.mt_fresh.proofs.fresh.explore_entries.Goals as goal
 
 pub explore-requires : goal.explore-requires

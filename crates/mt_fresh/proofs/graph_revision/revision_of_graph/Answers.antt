@@ -1,4 +1,4 @@
-use Rattle.std.proofs.Common.{◌≡◌, ◌∙◌, Option, ap}
+use Rattle.std.proofs.Common.{◌≡◌, ◌∙◌, ap}
 use Rattle.std.specs.Option.{option_copied}
 use Rattle.mt_revision.specs.Revisions.{made_after}
 use Rattle.mt_revision.specs.Contents.{HasContent, numbers_of, revision_after}

@@ -1,4 +1,4 @@
-use Rattle.std.proofs.Common.{◌∙◌, Some, ap, sym, is_some}
+use Rattle.std.proofs.Common.{◌∙◌, ap, sym, is_some}
 use Rattle.std.proofs.lemmas.Bool.{false≢true}
 use Rattle.mt_graph.proofs.Explored.{each_seed}
 use Rattle.mt_fresh.proofs.Visits.{traversed_all, traversed_source, traversed_start, traversed_step}

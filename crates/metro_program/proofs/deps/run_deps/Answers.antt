@@ -1,0 +1,26 @@
+use Rattle.std.proofs.Common.{refl, subst, sym}
+use Rattle.mt_report.specs.Listings.{graph_lines}
+use Rattle.metro_program.specs.First.{snapshot_plan}
+use Rattle.metro_program.specs.Progress.{IsOwn}
+use Rattle.metro_program.proofs.Owes.{crawl_looks, crawl_own, crawl_takes, files_owes, untaken_owes}
+use Rattle.metro_program.proofs.deps.run_deps.Goals as goal
+
+pub returns-in-Ok-clause-owes : goal.returns-in-Ok-clause-owes
+returns-in-Ok-clause-owes g c = λ script.
+    files_owes (snapshot_plan graph_lines c.args.ask) c.in-Ok.files
+    (record { folder = g.F.Folder.seen c.args.folder.now; script = script; out = g.O.Sink.seen c.args.out.now })
+    (record { folder = g.F.Folder.seen c.crawl.new.folder; script = script; out = g.O.Sink.seen c.list_files.new.out })
+    c.list_files.result (λ tree tells. crawl_takes tree c.in-Ok.files (c.in-Ok.ensures.exact tree tells)) c.list_files.ensures.fulfils c.crawl.ensures.looks.same c.crawl.ensures.looks.apart refl
+
+pub returns-in-Ok-clause-own : goal.returns-in-Ok-clause-own
+returns-in-Ok-clause-own g c = c.list_files.ensures.fulfils.own
+
+pub returns-in-Err-clause-owes : goal.returns-in-Err-clause-owes
+returns-in-Err-clause-owes g c = λ script.
+    untaken_owes
+    (record { folder = g.F.Folder.seen c.args.folder.now; script = script; out = g.O.Sink.seen c.args.out.now })
+    (record { folder = g.F.Folder.seen c.crawl.new.folder; script = script; out = g.O.Sink.seen c.args.out.now })
+    c.in-Err.fault c.from.result c.from.ensures c.in-Err.ensures.exact (crawl_looks _ _ c.in-Err.fault c.crawl.result c.in-Err.is c.crawl.ensures.looks) refl refl (snapshot_plan graph_lines c.args.ask)
+
+pub returns-in-Err-clause-own : goal.returns-in-Err-clause-own
+returns-in-Err-clause-own g c = subst IsOwn (sym c.from.ensures) (crawl_own c.in-Err.fault)
