@@ -11,7 +11,7 @@ mkdir -p "$work/crates/bench_live/src" "$work/crates/bench_live/specs" "$work/cr
 : >"$work/crates/bench_live/specs/Lib.antt"
 : >"$work/crates/bench_live/proofs/Lib.antt"
 cp "$top/HANDLES" "$work/"
-for crate in mt_containers mt_path mt_refs mt_tokens mt_trial mt_words; do
+for crate in mt_chars mt_containers mt_path mt_refs mt_tokens mt_trial mt_words; do
   mkdir -p "$work/crates/$crate"
   cp -r "$top/crates/$crate/src" "$top/crates/$crate/specs" "$top/crates/$crate/proofs" "$work/crates/$crate/"
   grep "^$crate:" "$top/crates.txt" >>"$work/crates.txt"

@@ -1,10 +1,12 @@
-//! Tests of the crates at the bottom: `mt_containers`, `mt_path`, `mt_tokens` and `mt_io`.
+//! Tests of the crates at the bottom: `mt_containers`, `mt_chars`, `mt_path`, `mt_tokens` and `mt_io`.
 #![tactic(auto)]
 
 #[cfg(test)]
 mod bytes;
 #[cfg(test)]
 mod callers;
+#[cfg(test)]
+mod characters;
 #[cfg(test)]
 mod common;
 #[cfg(test)]

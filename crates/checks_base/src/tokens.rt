@@ -1,7 +1,7 @@
 //! The lexical grammar at its corners.
 use mt_tokens::TokenKind::{Comment, Ident, Number, Punct, Space, Str};
 use mt_tokens::{
-    MAX_TEXT_BYTES, TokenFault, TokenKind, byte_at, is_mark_token, is_plain_word, is_quote_byte,
+    MAX_TEXT_BYTES, TokenFault, TokenKind, is_mark_token, is_plain_here, is_plain_word,
     is_seen_kind, is_word_token, token_bytes, tokens,
 };
 use std::alloc::Global;
@@ -174,12 +174,7 @@ fn a_token_is_told_by_its_bytes(rt: HostRuntime) -> Result<(), Fail> {
     assert!(rt; is_word_token(b"a.if;", b"if", word) && is_mark_token(b"a.if;", b".", dot));
     assert!(rt; is_plain_word(b"a.if;", b"if", None, word));
     assert!(rt; !is_plain_word(b"a.if;", b"if", Some(dot), word));
+    assert!(rt; is_plain_here(b"a.if;", None) && !is_plain_here(b"a.if;", Some(dot)));
     assert!(rt; is_seen_kind(word.kind) && !is_seen_kind(Space));
     Ok(())
-}
-
-#[test]
-fn a_byte_is_read_at_its_place(rt: HostRuntime) {
-    assert!(rt; byte_at(b"a'", 1) == b'\'' && byte_at(b"a'", 2) == 0);
-    assert!(rt; is_quote_byte(b'"') && is_quote_byte(b'\'') && !is_quote_byte(b'`'));
 }

@@ -1,5 +1,6 @@
 //! What is found in a text, and the first import or export that has no form.
-use mt_deps::{DepFault, DepKind, DepList, deps, part};
+use mt_chars::part;
+use mt_deps::{DepFault, DepKind, DepList, deps};
 use mt_tokens::{MAX_TEXT_BYTES, tokens};
 use std::alloc::Global;
 

@@ -5,8 +5,9 @@ use Rattle.std.specs.Option.{option_map_or}
 use Rattle.std.specs.List.{filter_map}
 use Rattle.std.specs.Str.{bytes_eq}
 use Rattle.std.proofs.lemmas.Slice.Eq.{bytes_eq-Decides}
+use Rattle.mt_tokens.specs.Cut.{IfThere}
 use Rattle.mt_tokens.specs.Deps.{Dependency, Deps, dependencies, deps_of, edit_of, form_end, gathered, gathered_or}
-use Rattle.mt_tokens.specs.Escapes.{cooked}
+use Rattle.mt_chars.specs.Escapes.{cooked}
 use Rattle.mt_tokens.specs.Forms.{Items, all_as, bound, bound_import, declared_names, default_import, export_all, export_form, export_list, from_named, given_name, import_form, item, last_item, list, named_by, statement_end, with_item}
 use Rattle.mt_tokens.specs.Readings.{argument, call_close, call_or, dynamic_call, form_or, found_at, found_before, found_in, read_export, read_import, read_require, read_site}
 use Rattle.mt_tokens.specs.Shields.{cover_after, no_cover}
@@ -25,9 +26,8 @@ use Rattle.mt_tokens.specs.declared.forms.Named.{Named}
 use Rattle.mt_tokens.specs.declared.token.Token.{Token}
 use Rattle.mt_tokens.specs.declared.token.TokenKind.{TokenKind}
 use Rattle.mt_tokens.specs.declared.token.TokenKind.TheVariants as kind
-use Rattle.mt_deps.specs.Cut.{IfThere}
 use Rattle.mt_deps.specs.Uses.{AreApart}
-use Rattle.mt_deps.proofs.Cuts.{either}
+use Rattle.mt_tokens.proofs.Replaced.{either}
 use Rattle.mt_deps.proofs.Steps.{site}
 
 -- ---- tokens one after another from a place on

@@ -2,7 +2,8 @@
 use Rattle.std.proofs.Common.{◌≡◌, ◌∙◌, ℕ, Bool, true, false, cond, List, [], ◌∷◌, ◌++◌, ap, drop, map, subst, sym, Option, Some, None, Ok, Err, codes, IsCharBoundary}
 use Rattle.std.specs.Prelude.{Result, filter, option_map, option_and_then, is_some, nat_lt}
 use Rattle.std.specs.List.{AllByRecursion}
-use Rattle.mt_tokens.specs.Escapes.{cooked}
+use Rattle.mt_chars.specs.Escapes.{cooked}
+use Rattle.mt_tokens.specs.Cut.{AreCut, IfThere, IsBoundCut, IsFormCut, IsFoundCut, IsItemCut, IsNamedCut}
 use Rattle.mt_tokens.specs.Forms.{Items, Read, all_as, bound, bound_import, declared_names, default_import, ends_names, export_all, export_declared, export_form, export_list, from_named, function_name, given_name, import_form, is_declared, is_extends, item, last_item, list, named_by, statement_end, unless, with_item}
 use Rattle.mt_tokens.specs.Readings.{argument, call_close, call_or, dynamic_call, form_or, found_at, found_before, read_export, read_import, read_require, read_site}
 use Rattle.mt_tokens.specs.Shields.{cover_after}
@@ -20,16 +21,12 @@ use Rattle.mt_tokens.specs.declared.forms.Found.{Found}
 use Rattle.mt_tokens.specs.declared.forms.Found.TheVariants.{Dynamic, ImportCall, Require}
 use Rattle.mt_tokens.specs.declared.forms.Named.{Named}
 use Rattle.mt_tokens.specs.declared.token.Token.{Token}
-use Rattle.mt_deps.specs.Cut.{AreCut, IfThere, IsBoundCut, IsFormCut, IsFoundCut, IsItemCut, IsNamedCut}
-use Rattle.mt_deps.specs.Seen.{seen_bound, seen_items}
+use Rattle.mt_tokens.proofs.Replaced.{either}
+use Rattle.mt_deps.specs.Seen.{seen_bound, seen_items, seen_of}
 use Rattle.mt_deps.specs.declared.lists.BoundRead.{BoundRead}
 use Rattle.mt_deps.specs.declared.lists.ItemsRead.{ItemsRead}
 
 -- ---- of what may be there
-
-pub either : {X : Type 0} (P : X → Type 0) (b : Bool) (x y : X) → P x → P y → P (cond b x y)
-either P true x y h k = h
-either P false x y h k = k
 
 only_if : {X : Type 0} (P : X → Type 0) (b : Bool) (o : Option X) → IfThere P o → IfThere P (cond b o None)
 only_if P b o h = either (IfThere P) b o None h tt
@@ -46,7 +43,7 @@ after : {X Y : Type 0} (P : X → Type 0) (Q : Y → Type 0) (f : X → Option Y
 after P Q f None g h = tt
 after P Q f (Some x) g h = g x h
 
-and_rest : {X : Type 0} (P : X → Type 0) (xs ys : List X) → AllByRecursion P xs → AllByRecursion P ys → AllByRecursion P (xs ++ ys)
+pub and_rest : {X : Type 0} (P : X → Type 0) (xs ys : List X) → AllByRecursion P xs → AllByRecursion P ys → AllByRecursion P (xs ++ ys)
 and_rest P [] ys h k = k
 and_rest P (x ∷ xs) ys h k = (h.0, and_rest P xs ys h.1 k)
 
@@ -106,13 +103,13 @@ bound_cut text (t ∷ ts) h =
     either (IfThere (IsReadCut text)) (is_mark text (codes "*") t) _ _ (all_cut text ts h.1)
     (only_if (IsReadCut text) (is_mark text (codes "{") t) _ (mapped (IsListCut text) (IsReadCut text) _ (list text [] ts) (λ l c. (c.0, c.2)) (list_cut text [] ts tt h.1)))
 
-pub all_rest : (text : List ℕ) (ts : List Token) (r : Option BoundRead) (b : BoundRead) → option_map seen_bound r ≡ all_as text ts → r ≡ Some b → AreCut text ts → AreCut text b.rest.now
+pub all_rest : (text : List ℕ) (ts : List Token) (r : Option BoundRead) (b : BoundRead) → option_map seen_bound r ≡ all_as text ts → r ≡ Some b → AreCut text ts → AreCut text (seen_of b.rest)
 all_rest text ts r b e s h = (subst (IfThere (IsReadCut text)) (sym e ∙ ap (option_map seen_bound) s) (all_cut text ts h)).1
 
-pub bound_rest : (text : List ℕ) (ts : List Token) (r : Option BoundRead) (b : BoundRead) → option_map seen_bound r ≡ bound text ts → r ≡ Some b → AreCut text ts → AreCut text b.rest.now
+pub bound_rest : (text : List ℕ) (ts : List Token) (r : Option BoundRead) (b : BoundRead) → option_map seen_bound r ≡ bound text ts → r ≡ Some b → AreCut text ts → AreCut text (seen_of b.rest)
 bound_rest text ts r b e s h = (subst (IfThere (IsReadCut text)) (sym e ∙ ap (option_map seen_bound) s) (bound_cut text ts h)).1
 
-pub list_rest : (text : List ℕ) (ts : List Token) (r : Option ItemsRead) (l : ItemsRead) → option_map seen_items r ≡ list text [] ts → r ≡ Some l → AreCut text ts → AreCut text l.rest.now
+pub list_rest : (text : List ℕ) (ts : List Token) (r : Option ItemsRead) (l : ItemsRead) → option_map seen_items r ≡ list text [] ts → r ≡ Some l → AreCut text ts → AreCut text (seen_of l.rest)
 list_rest text ts r l e s h = (subst (IfThere (IsListCut text)) (sym e ∙ ap (option_map seen_items) s) (list_cut text [] ts tt h)).2
 
 bound_import_cut : (text : List ℕ) (d : Option Token) (ts : List Token) → IfThere (IsCut text) d → AreCut text ts → IfThere (IsFormCut text) (bound_import text d ts)

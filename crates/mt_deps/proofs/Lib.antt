@@ -4,6 +4,6 @@ pub mod Gathers
 pub mod ListSteps
 pub mod Numbered
 pub mod Partners
-pub mod Puts
 pub mod Replaced
 pub mod Steps
+pub mod Wordless

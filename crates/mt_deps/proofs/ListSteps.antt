@@ -3,7 +3,7 @@ use Rattle.std.proofs.Common.{◌≡◌, ℕ, List, [], ◌∷◌, ◌++◌, tru
 use Rattle.std.specs.Prelude.{option_map, option_and_then, codes}
 use Rattle.std.proofs.lemmas.Grind.{common_steps}
 use Rattle.mt_tokens.specs.declared.token.Token.{Token}
-use Rattle.mt_tokens.specs.Words.{is_mark}
+use Rattle.mt_tokens.specs.Words.{is_mark, is_seen, seen}
 use Rattle.mt_tokens.specs.declared.forms.Item.{Item}
 use Rattle.mt_tokens.specs.Forms.{Items, with_item, item, list}
 
@@ -59,6 +59,20 @@ pub close_no_item :
 close_no_item text [] t ts is b n h = absurd (n refl)
 close_no_item text (p ∷ ps) t ts is b n h = rw (b, h) refl
 
+-- an item has one token or three
+pub item_other : (text : List ℕ) (k : ℕ) (ts : List Token) → k ≤ length ts → (k ≡ 1 → ⊥) → (k ≡ 3 → ⊥) → item text (take k ts) ≡ None
+item_other text zero ts h a b = refl
+item_other text (suc zero) ts h a b = absurd (a refl)
+item_other text (suc (suc zero)) [] h a b = absurd (omega arith)
+item_other text (suc (suc zero)) (n ∷ []) h a b = absurd (omega arith)
+item_other text (suc (suc zero)) (n ∷ m ∷ ts) h a b = refl
+item_other text (suc (suc (suc zero))) ts h a b = absurd (b refl)
+item_other text (suc (suc (suc (suc k)))) [] h a b = absurd (omega arith)
+item_other text (suc (suc (suc (suc k)))) (n ∷ []) h a b = absurd (omega arith)
+item_other text (suc (suc (suc (suc k)))) (n ∷ m ∷ []) h a b = absurd (omega arith)
+item_other text (suc (suc (suc (suc k)))) (n ∷ m ∷ o ∷ []) h a b = absurd (omega arith)
+item_other text (suc (suc (suc (suc k)))) (n ∷ m ∷ o ∷ t ∷ ts) h a b = refl
+
 -- one token more
 pub begun_step : (xs : List Token) (k : ℕ) (t : Token) (ts : List Token) → drop k xs ≡ t ∷ ts → (take (k + 1) xs ≡ take k xs ++ t ∷ []) × (drop (k + 1) xs ≡ ts)
 begun_step [] zero t ts h = absurd (cc)
@@ -92,3 +106,8 @@ back_step xs n d p l =
     let i : n - 1 < length xs = omega arith in
     let s : length (drop n xs) ≤ length xs - n = grind (arith, common_steps) in
     (drop_at xs (n - 1) n d i (sym e), rw e (take_all (length xs - n) (drop n xs) s))
+
+-- where it is neither a blank nor a comment, it is before those of them that are neither
+pub back_seen :
+    (xs : List Token) (n : ℕ) (d : Token) → 0 < n → n ≤ length xs → is_seen (get_or xs (n - 1) d).kind ≡ true → seen (drop (n - 1) xs) ≡ get_or xs (n - 1) d ∷ seen (drop n xs)
+back_seen xs n d p l s = let b = back_step xs n d p l in rw (b.0, s) refl

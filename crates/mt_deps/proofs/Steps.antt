@@ -1,5 +1,5 @@
 -- The steps of reading tokens one after another.
-use Rattle.std.proofs.Common.{arith, ◌≡◌, ◌<◌, ◌≤◌, length, Bool, cond, ℕ, List, [], ◌∷◌, map, true, false, Some, Ok, Err, Option, refl}
+use Rattle.std.proofs.Common.{arith, ◌≡◌, ◌≤◌, length, Bool, cond, ℕ, List, [], ◌∷◌, map, true, false, Some, Ok, Err, Option, refl}
 use Rattle.std.specs.Prelude.{filter, nat_lt}
 use Rattle.mt_tokens.specs.Forms.{ends_names, is_declared}
 use Rattle.mt_tokens.specs.Readings.{found_at, found_before, read_site}
@@ -53,9 +53,6 @@ few_by true t us ts h = grind (arith, h)
 few_by false t us ts h = grind (arith, h)
 
 -- the tokens that are neither blanks nor comments are no more than all
-seen_within : (ts : List Token) → length (seen ts) ≤ length ts
+pub seen_within : (ts : List Token) → length (seen ts) ≤ length ts
 seen_within [] = omega arith
 seen_within (t ∷ ts) = few_by (is_seen t.kind) t (seen ts) ts (seen_within ts)
-
-pub seen_few : (ts us : List Token) → us ≡ seen ts → length ts < 4294967296 → length us < 4294967296
-seen_few ts us e h = let l = seen_within ts in rw e (omega (arith, l, h))

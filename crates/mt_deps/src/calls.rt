@@ -1,45 +1,51 @@
 //! What is found at one token.
 ghost use Rattle.std.specs.Prelude.{◌≡◌, ◌⊎◌, Ok, Err, IfOk, IfErr};
+ghost use Rattle.mt_tokens.specs.Cut.{AreCut};
 ghost use Rattle.mt_tokens.specs.Readings.{argument, call_close, call_or, dynamic_call, read_export, read_import, read_require, read_site};
 ghost use Rattle.mt_tokens.specs.declared.forms.Found.TheVariants.{ImportCall};
-ghost use Rattle.mt_deps.specs.Cut.{AreCut};
-ghost use Rattle.mt_deps.specs.Seen.{seen_site};
+ghost use Rattle.mt_deps.specs.Seen.{seen_of, seen_site};
 
 use crate::exports::read_export_form;
 use crate::imports::read_import_form;
 use crate::lists::read_named;
+use crate::seen::SeenTokens;
 use crate::sites::{Site, begins_with, is_word_at};
 use mt_tokens::{DepFault, Found, Named, Token, is_mark_token, is_word_token};
 use std::alloc::{AllocError, Global};
 
 /// The `)` after an optional `,`.
-fn close_of_call(bytes: &[u8], tokens: &[Token]) -> Option<Token>
-    ensures { result ≡ call_close bytes.now tokens.now }
+fn close_of_call(bytes: &[u8], tokens: SeenTokens) -> Option<Token>
+    ensures { result ≡ call_close bytes.now (seen_of tokens.entry) }
 {
-    match tokens {
-        [first, ..] if is_mark_token(bytes, b")", *first) => Some(*first),
-        [comma, close, ..]
-            if is_mark_token(bytes, b",", *comma) && is_mark_token(bytes, b")", *close) => {
-            Some(*close)
-        }
-        _ => None,
+    let (first, after) = tokens.split_first()?;
+    if is_mark_token(bytes, b")", first) {
+        return Some(first);
+    }
+    let (second, _) = after.split_first()?;
+    if is_mark_token(bytes, b",", first) && is_mark_token(bytes, b")", second) {
+        Some(second)
+    } else {
+        None
     }
 }
 
 /// `(`, a string, an optional `,`, `)`.
-fn read_argument(alloc: Global, text: &str, tokens: &[Token]) -> Result<Option<Named>, AllocError>
-    requires { AreCut text.now tokens.now }
-    ensures { IfOk result (λ m. m ≡ argument text.now tokens.now) }
+fn read_argument(alloc: Global, text: &str, tokens: SeenTokens) -> Result<Option<Named>, AllocError>
+    requires { AreCut text.now (seen_of tokens) }
+    ensures { IfOk result (λ m. m ≡ argument text.now (seen_of tokens.entry)) }
 {
-    let [opener, string, rest @ ..] = tokens else {
+    let Some((opener, after)) = tokens.split_first() else {
+        return Ok(None);
+    };
+    let Some((string, rest)) = after.split_first() else {
         return Ok(None);
     };
     let bytes = text.as_bytes();
-    if !is_mark_token(bytes, b"(", *opener) {
+    if !is_mark_token(bytes, b"(", opener) {
         return Ok(None);
     }
     match close_of_call(bytes, rest) {
-        Some(close) => read_named(alloc, text, *string, close.end),
+        Some(close) => read_named(alloc, text, string, close.end),
         None => Ok(None),
     }
 }
@@ -48,10 +54,9 @@ fn read_argument(alloc: Global, text: &str, tokens: &[Token]) -> Result<Option<N
 fn read_dynamic(bytes: &[u8], site: &Site) -> Option<Found>
     ensures { result ≡ dynamic_call bytes.now (seen_site site.now) }
 {
-    let declared = match site.before {
-        Some(token) => is_word_token(bytes, b"function", token),
-        None => false,
-    };
+    let declared = site
+        .before
+        .is_some_and(|token| is_word_token(bytes, b"function", token));
     if begins_with(bytes, b"(", site.after) && !declared {
         Some(Found::Dynamic)
     } else {

@@ -1,16 +1,13 @@
 //! What is found so far.
 ghost use Rattle.std.specs.Prelude.{◌≡◌, ◌≤◌, ◌<◌, ◌+◌, if◌then◌else◌, OnOk};
+ghost use Rattle.mt_tokens.specs.Cut.{IfThere, IsFoundCut};
 ghost use Rattle.mt_tokens.specs.Deps.{is_dynamic, is_export, is_export_form};
-ghost use Rattle.mt_deps.specs.Cut.{IfThere, IsFoundCut};
 ghost use Rattle.mt_deps.specs.Gathered.{kept, nothing, with_found, with_option};
 ghost use Rattle.mt_deps.specs.Numbers.{Numbers};
 
-use crate::DepList;
-use crate::marks::put_marks;
 use crate::numbers::{Row, number_found};
-use crate::uses::put_use;
 use mt_containers::List;
-use mt_tokens::{Dep, Form, Found, Mark, TextMap, Use};
+use mt_tokens::{Dep, DepList, Form, Found, Mark, TextMap, Use, put_marks, put_use};
 use std::alloc::{AllocError, Global};
 
 /// What is found so far, and the numbers of its dependencies.
@@ -29,22 +26,13 @@ fn dynamic_calls(found: &Found) -> u32
     ensures exact { result ≡ (if is_dynamic found.now then 1 else 0) }
     ensures most { result ≤ 1 }
 {
-    match found {
-        Found::Dynamic => 1,
-        Found::Require(_) | Found::ImportCall { .. } | Found::Statement { .. } => 0,
-    }
+    u32::from(matches!(found, Found::Dynamic))
 }
 
 fn is_form_of_export(form: &Form) -> bool
     ensures { result ≡ is_export_form form.now }
 {
-    match form {
-        Form::Import { .. } => false,
-        Form::ExportFrom { .. }
-        | Form::ExportList { .. }
-        | Form::ExportDefault { .. }
-        | Form::ExportDeclared { .. } => true,
-    }
+    !matches!(form, Form::Import { .. })
 }
 
 /// Whether this is an export.
@@ -116,20 +104,12 @@ impl Gathering {
     pub(crate) fn into_list(self) -> DepList
         ensures { result ≡ kept self }
     {
-        let Gathering {
-            deps,
-            uses,
-            marks,
-            exporting,
-            dynamic,
-            ..
-        } = self;
-        DepList {
-            deps,
-            uses,
-            marks,
-            exporting,
-            dynamic,
-        }
+        DepList::new(
+            self.deps,
+            self.uses,
+            self.marks,
+            self.exporting,
+            self.dynamic,
+        )
     }
 }

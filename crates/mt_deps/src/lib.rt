@@ -2,22 +2,18 @@
 #![tactic(auto)]
 
 mod calls;
-mod dep_list;
 mod exports;
 mod gathering;
 mod imports;
 mod law;
 mod lists;
-mod marks;
 mod numbers;
 mod reading;
-mod replacing;
+mod seen;
 mod shields;
 mod sites;
 mod spans;
-mod uses;
 
-pub use dep_list::DepList;
 pub use law::law_of_uses;
-pub use mt_tokens::{Dep, DepFault, DepKind, Mark, Use, part};
+pub use mt_tokens::{Dep, DepFault, DepKind, DepList, Mark, Use};
 pub use reading::deps;

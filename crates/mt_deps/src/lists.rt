@@ -1,13 +1,16 @@
 //! Lists of names in braces, and the modules that strings name.
 ghost use Rattle.std.specs.Prelude.{◌≡◌, ◌≤◌, ◌++◌, ◌∷◌, [], length, take, drop, true, false, Some, None, IfOk, option_map};
+ghost use Rattle.mt_tokens.specs.Cut.{AreCut};
 ghost use Rattle.mt_tokens.specs.Forms.{all_as, bound, from_named, item, list, named_by, statement_end};
 ghost use Rattle.mt_tokens.specs.Tokens.{IsCut};
-ghost use Rattle.mt_deps.specs.Cut.{AreCut};
-ghost use Rattle.mt_deps.specs.Seen.{seen_bound, seen_items};
+ghost use Rattle.mt_deps.specs.Seen.{seen_bound, seen_items, seen_of};
 
-use crate::sites::{is_name_token, token_text};
+use crate::seen::SeenTokens;
+use crate::sites::is_name_token;
 use mt_containers::List;
-use mt_tokens::{Bound, Item, Named, Token, TokenKind, cook, is_mark_token, is_word_token};
+use mt_tokens::{
+    Bound, Item, Named, Token, TokenKind, cook, is_mark_token, is_word_token, token_text,
+};
 use std::alloc::{AllocError, Global};
 
 /// The items of a list, its `}`, and the tokens after it.
@@ -15,14 +18,14 @@ use std::alloc::{AllocError, Global};
 pub(crate) struct ItemsRead<'t> {
     pub items: List<Item>,
     pub close: Token,
-    pub rest: &'t [Token],
+    pub rest: SeenTokens<'t>,
 }
 
 /// What a statement takes of a module, and the tokens after it.
 #[derive(Drop)]
 pub(crate) struct BoundRead<'t> {
     pub bound: Bound,
-    pub rest: &'t [Token],
+    pub rest: SeenTokens<'t>,
 }
 
 /// The module that a string names, in a statement or a call up to this end.
@@ -46,11 +49,11 @@ pub(crate) fn read_named(
 }
 
 /// The place after a statement with this last token.
-pub(crate) fn end_of_statement(bytes: &[u8], last: Token, rest: &[Token]) -> u32
-    ensures { result ≡ statement_end bytes.now last rest.now }
+pub(crate) fn end_of_statement(bytes: &[u8], last: Token, rest: SeenTokens) -> u32
+    ensures { result ≡ statement_end bytes.now last (seen_of rest.entry) }
 {
-    match rest {
-        [next, ..] if is_mark_token(bytes, b";", *next) => next.end,
+    match rest.split_first() {
+        Some((next, _)) if is_mark_token(bytes, b";", next) => next.end,
         _ => last.end,
     }
 }
@@ -59,49 +62,61 @@ pub(crate) fn end_of_statement(bytes: &[u8], last: Token, rest: &[Token]) -> u32
 pub(crate) fn read_from(
     alloc: Global,
     text: &str,
-    tokens: &[Token],
+    tokens: SeenTokens,
 ) -> Result<Option<Named>, AllocError>
-    requires { AreCut text.now tokens.now }
-    ensures { IfOk result (λ m. m ≡ from_named text.now tokens.now) }
+    requires { AreCut text.now (seen_of tokens) }
+    ensures { IfOk result (λ m. m ≡ from_named text.now (seen_of tokens.entry)) }
 {
-    let [from, string, rest @ ..] = tokens else {
+    let Some((from, after)) = tokens.split_first() else {
+        return Ok(None);
+    };
+    let Some((string, rest)) = after.split_first() else {
         return Ok(None);
     };
     let bytes = text.as_bytes();
-    if !is_word_token(bytes, b"from", *from) {
+    if !is_word_token(bytes, b"from", from) {
         return Ok(None);
     }
-    read_named(alloc, text, *string, end_of_statement(bytes, *string, rest))
+    read_named(alloc, text, string, end_of_statement(bytes, string, rest))
 }
 
-/// `n`, or `n as m`.
-fn read_item(bytes: &[u8], tokens: &[Token]) -> Option<Item>
-    ensures { result ≡ item bytes.now tokens.now }
+/// The item that so many tokens are: `n`, or `n as m`.
+#[tactic(auto, using(crate::proofs::ListSteps::item_other))]
+fn read_item(bytes: &[u8], from: SeenTokens, count: usize) -> Option<Item>
+    requires { count ≤ length (seen_of from) }
+    ensures { result ≡ item bytes.now (take count (seen_of from.entry)) }
 {
-    match tokens {
-        [name] if is_name_token(*name) => Some(Item {
-            name: *name,
-            other: *name,
-        }),
-        [name, word, other]
-            if is_name_token(*name)
-                && is_word_token(bytes, b"as", *word)
-                && is_name_token(*other) => {
-            Some(Item {
-                name: *name,
-                other: *other,
-            })
-        }
-        _ => None,
+    if count != 1 && count != 3 {
+        return None;
+    }
+    let (name, after) = from.split_first()?;
+    if !is_name_token(name) {
+        return None;
+    }
+    if count == 1 {
+        return Some(Item { name, other: name });
+    }
+    let (word, after) = after.split_first()?;
+    let (other, _) = after.split_first()?;
+    if is_word_token(bytes, b"as", word) && is_name_token(other) {
+        Some(Item { name, other })
+    } else {
+        None
     }
 }
 
-/// Adds the item that these tokens are. Answers whether they are one.
-fn add_item(bytes: &[u8], begun: &[Token], items: &mut List<Item>) -> Result<bool, AllocError>
-    ensures some { IfOk result (λ fits. fits ≡ true → option_map (λ i. items.old ++ i ∷ []) (item bytes.now begun.now) ≡ Some items.new) }
-    ensures none { IfOk result (λ fits. fits ≡ false → item bytes.now begun.now ≡ None) }
+/// Adds the item that so many tokens are. Answers whether they are one.
+fn add_item(
+    bytes: &[u8],
+    from: SeenTokens,
+    count: usize,
+    items: &mut List<Item>,
+) -> Result<bool, AllocError>
+    requires { count ≤ length (seen_of from) }
+    ensures some { IfOk result (λ fits. fits ≡ true → option_map (λ i. items.old ++ i ∷ []) (item bytes.now (take count (seen_of from.entry))) ≡ Some items.new) }
+    ensures none { IfOk result (λ fits. fits ≡ false → item bytes.now (take count (seen_of from.entry)) ≡ None) }
 {
-    let Some(item) = read_item(bytes, begun) else {
+    let Some(item) = read_item(bytes, from, count) else {
         return Ok(false);
     };
     items.push(item)?;
@@ -112,28 +127,27 @@ fn add_item(bytes: &[u8], begun: &[Token], items: &mut List<Item>) -> Result<boo
 pub(crate) fn read_list<'t>(
     alloc: Global,
     bytes: &[u8],
-    tokens: &'t [Token],
+    tokens: SeenTokens<'t>,
 ) -> Result<Option<ItemsRead<'t>>, AllocError>
-    ensures { IfOk result (λ l. option_map seen_items l ≡ list bytes.now [] tokens.now) }
+    ensures { IfOk result (λ l. option_map seen_items l ≡ list bytes.now [] (seen_of tokens.entry)) }
 {
     let mut items = List::new(alloc);
     let mut from = tokens;
     let mut count = 0usize;
     let mut rest = tokens;
     while let Some((here, after)) = rest.split_first() {
-        let begun = &from[..count];
-        if is_mark_token(bytes, b"}", *here) {
-            if !begun.is_empty() && !add_item(bytes, begun, &mut items)? {
+        if is_mark_token(bytes, b"}", here) {
+            if count != 0 && !add_item(bytes, from, count, &mut items)? {
                 return Ok(None);
             }
             return Ok(Some(ItemsRead {
                 items,
-                close: *here,
+                close: here,
                 rest: after,
             }));
         }
-        if is_mark_token(bytes, b",", *here) {
-            if !add_item(bytes, begun, &mut items)? {
+        if is_mark_token(bytes, b",", here) {
+            if !add_item(bytes, from, count, &mut items)? {
                 return Ok(None);
             }
             from = after;
@@ -147,15 +161,14 @@ pub(crate) fn read_list<'t>(
 }
 
 /// `as n`, for the whole of a module.
-pub(crate) fn read_all<'t>(bytes: &[u8], tokens: &'t [Token]) -> Option<BoundRead<'t>>
-    ensures { option_map seen_bound result ≡ all_as bytes.now tokens.now }
+pub(crate) fn read_all<'t>(bytes: &[u8], tokens: SeenTokens<'t>) -> Option<BoundRead<'t>>
+    ensures { option_map seen_bound result ≡ all_as bytes.now (seen_of tokens.entry) }
 {
-    let [word, name, rest @ ..] = tokens else {
-        return None;
-    };
-    if is_word_token(bytes, b"as", *word) && is_name_token(*name) {
+    let (word, after) = tokens.split_first()?;
+    let (name, rest) = after.split_first()?;
+    if is_word_token(bytes, b"as", word) && is_name_token(name) {
         Some(BoundRead {
-            bound: Bound::All(*name),
+            bound: Bound::All(name),
             rest,
         })
     } else {
@@ -167,17 +180,17 @@ pub(crate) fn read_all<'t>(bytes: &[u8], tokens: &'t [Token]) -> Option<BoundRea
 pub(crate) fn read_bound<'t>(
     alloc: Global,
     bytes: &[u8],
-    tokens: &'t [Token],
+    tokens: SeenTokens<'t>,
 ) -> Result<Option<BoundRead<'t>>, AllocError>
-    ensures { IfOk result (λ b. option_map seen_bound b ≡ bound bytes.now tokens.now) }
+    ensures { IfOk result (λ b. option_map seen_bound b ≡ bound bytes.now (seen_of tokens.entry)) }
 {
     let Some((first, after)) = tokens.split_first() else {
         return Ok(None);
     };
-    if is_mark_token(bytes, b"*", *first) {
+    if is_mark_token(bytes, b"*", first) {
         return Ok(read_all(bytes, after));
     }
-    if !is_mark_token(bytes, b"{", *first) {
+    if !is_mark_token(bytes, b"{", first) {
         return Ok(None);
     }
     match read_list(alloc, bytes, after)? {

@@ -32,26 +32,18 @@ impl Row {
     fn with(self, kind: DepKind, number: usize) -> Row
         ensures { result ≡ with_kind self kind number }
     {
-        let Row {
-            require,
-            import,
-            import_call,
-        } = self;
         match kind {
             DepKind::Require => Row {
                 require: Some(number),
-                import,
-                import_call,
+                ..self
             },
             DepKind::Import => Row {
-                require,
                 import: Some(number),
-                import_call,
+                ..self
             },
             DepKind::ImportCall => Row {
-                require,
-                import,
                 import_call: Some(number),
+                ..self
             },
         }
     }

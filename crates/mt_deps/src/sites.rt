@@ -1,10 +1,10 @@
 //! Tokens where they stand.
-ghost use Rattle.std.specs.Prelude.{◌≡◌, ◌+◌, ◌-◌, ◌≤◌, ◌<◌, drop, codes, if◌then◌else◌};
-ghost use Rattle.mt_tokens.specs.Sites.{begins, begins_word, closes, depth_after, first_name, is_plain_at};
-ghost use Rattle.mt_tokens.specs.Tokens.{IsCut};
-ghost use Rattle.mt_tokens.specs.Words.{bytes_of, is_access, is_ident, is_plain_after};
-ghost use Rattle.mt_deps.specs.Seen.{seen_site};
+ghost use Rattle.std.specs.Prelude.{◌≡◌, ◌+◌, ◌≤◌, ◌<◌, ◌^◌, ◌∷◌, [], drop, length, IfSome, MatchOption, Some};
+ghost use Rattle.mt_tokens.specs.Sites.{begins, begins_word, depth_after, first_name, is_plain_at};
+ghost use Rattle.mt_tokens.specs.Words.{is_ident};
+ghost use Rattle.mt_deps.specs.Seen.{seen_of, seen_site};
 
+use crate::seen::SeenTokens;
 use mt_tokens::{
     Token, TokenKind, is_closing_token, is_mark_token, is_opening_token, is_plain_word,
     is_word_token,
@@ -19,40 +19,13 @@ pub(crate) struct Site<'t> {
     pub depth: usize,
     pub here: Token,
     /// The tokens after it.
-    pub after: &'t [Token],
-}
-
-/// The text of a token, which is cut between characters.
-pub(crate) fn token_text(text: &str, token: Token) -> &str
-    requires { IsCut text.now token }
-    ensures { result.now ≡ bytes_of text.now token }
-{
-    let start = token.start as usize;
-    let end = token.end as usize;
-    if start < end { &text[start..end] } else { "" }
+    pub after: SeenTokens<'t>,
 }
 
 pub(crate) fn is_name_token(token: Token) -> bool
     ensures { result ≡ is_ident token.kind }
 {
     matches!(token.kind, TokenKind::Ident)
-}
-
-/// Whether the token is `.` or `?.`.
-fn is_access_mark(bytes: &[u8], token: Token) -> bool
-    ensures { result ≡ is_access bytes.now token }
-{
-    is_mark_token(bytes, b".", token) || is_mark_token(bytes, b"?.", token)
-}
-
-/// Whether a word after this token is plain.
-pub(crate) fn is_plain_here(bytes: &[u8], before: Option<Token>) -> bool
-    ensures { result ≡ is_plain_after bytes.now before }
-{
-    match before {
-        Some(token) => !is_access_mark(bytes, token),
-        None => true,
-    }
 }
 
 /// Whether this plain word stands here.
@@ -63,67 +36,93 @@ pub(crate) fn is_word_at(bytes: &[u8], word: &[u8], site: &Site) -> bool
 }
 
 /// Whether the first of the tokens is this punctuator.
-pub(crate) fn begins_with(bytes: &[u8], mark: &[u8], tokens: &[Token]) -> bool
-    ensures { result ≡ begins bytes.now mark.now tokens.now }
+pub(crate) fn begins_with(bytes: &[u8], mark: &[u8], tokens: SeenTokens) -> bool
+    ensures { result ≡ begins bytes.now mark.now (seen_of tokens.entry) }
 {
-    match tokens {
-        [first, ..] => is_mark_token(bytes, mark, *first),
-        [] => false,
+    match tokens.split_first() {
+        Some((first, _)) => is_mark_token(bytes, mark, first),
+        None => false,
     }
 }
 
 /// Whether the first of the tokens is this word.
-pub(crate) fn begins_with_word(bytes: &[u8], word: &[u8], tokens: &[Token]) -> bool
-    ensures { result ≡ begins_word bytes.now word.now tokens.now }
+pub(crate) fn begins_with_word(bytes: &[u8], word: &[u8], tokens: SeenTokens) -> bool
+    ensures { result ≡ begins_word bytes.now word.now (seen_of tokens.entry) }
 {
-    match tokens {
-        [first, ..] => is_word_token(bytes, word, *first),
-        [] => false,
+    match tokens.split_first() {
+        Some((first, _)) => is_word_token(bytes, word, first),
+        None => false,
     }
 }
 
 /// The first of the tokens, if it is a name.
-pub(crate) fn leading_name(tokens: &[Token]) -> Option<Token>
-    ensures { result ≡ first_name tokens.now }
+pub(crate) fn leading_name(tokens: SeenTokens) -> Option<Token>
+    ensures { result ≡ first_name (seen_of tokens.entry) }
 {
-    match tokens {
-        [first, ..] if is_name_token(*first) => Some(*first),
-        _ => None,
-    }
+    let (first, _) = tokens.split_first()?;
+    is_name_token(first).then_some(first)
 }
 
 /// The tokens after the first.
-pub(crate) fn after_first(tokens: &[Token]) -> &[Token]
-    ensures { result.now ≡ drop 1 tokens.now }
+pub(crate) fn after_first(tokens: SeenTokens) -> SeenTokens
+    ensures { seen_of result ≡ drop 1 (seen_of tokens.entry) }
 {
-    match tokens {
-        [_, rest @ ..] => rest,
-        [] => tokens,
-    }
-}
-
-/// The depth without the opener that a token closes.
-fn closed_depth(bytes: &[u8], depth: usize, token: Token) -> usize
-    ensures exact { result ≡ (if closes bytes.now token then depth - 1 else depth) }
-    ensures most { result ≤ depth }
-{
-    if is_closing_token(bytes, token) {
-        depth.saturating_sub(1)
-    } else {
-        depth
-    }
+    tokens.split_first().map_or(tokens, |(_, rest)| rest)
 }
 
 /// How many openers are unclosed after a token.
-pub(crate) fn next_depth(bytes: &[u8], depth: usize, token: Token) -> usize
+fn next_depth(bytes: &[u8], depth: usize, token: Token) -> usize
     requires { depth < usize.MAX }
     ensures exact { result ≡ depth_after bytes.now depth token }
     ensures most { result ≤ depth + 1 }
 {
-    let kept = closed_depth(bytes, depth, token);
-    if is_opening_token(bytes, token) {
-        kept + 1
-    } else {
-        kept
+    let closed = usize::from(is_closing_token(bytes, token));
+    depth.saturating_sub(closed) + usize::from(is_opening_token(bytes, token))
+}
+
+/// The sites of tokens that are left, of which the depth can be counted.
+#[derive(Clone, Copy)]
+pub(crate) struct Sites<'t> {
+    before: Option<Token>,
+    depth: usize,
+    rest: SeenTokens<'t>,
+    ghost room: { depth + length (seen_of rest) < 2 ^ 64 },
+}
+
+impl<'t> Sites<'t> {
+    /// The sites of tokens that are after this one, at depth 0.
+    #[tactic(auto, using(crate::proofs::Steps::seen_within))]
+    pub(crate) fn new(before: Option<Token>, rest: SeenTokens<'t>) -> Sites<'t>
+        ensures before { result.before ≡ before }
+        ensures depth { result.depth ≡ 0 }
+        ensures rest { result.rest ≡ rest.entry }
+    {
+        Sites {
+            before,
+            depth: 0,
+            rest,
+        }
+    }
+
+    /// The first of them, which is taken out.
+    pub(crate) fn next(&mut self, bytes: &[u8]) -> Option<Site<'t>>
+        ensures site { MatchOption result (seen_of self.old.rest ≡ []) (λ s. (seen_of self.old.rest ≡ s.here ∷ seen_of s.after) × (s.before ≡ self.old.before) × (s.depth ≡ self.old.depth)) }
+        ensures before { IfSome result (λ s. self.new.before ≡ Some s.here) }
+        ensures depth { IfSome result (λ s. self.new.depth ≡ depth_after bytes.now self.old.depth s.here) }
+        ensures rest { IfSome result (λ s. self.new.rest ≡ s.after) }
+    {
+        let (here, after) = self.rest.split_first()?;
+        let site = Site {
+            before: self.before,
+            depth: self.depth,
+            here,
+            after,
+        };
+        *self = Sites {
+            before: Some(here),
+            depth: next_depth(bytes, site.depth, here),
+            rest: after,
+        };
+        Some(site)
     }
 }

@@ -1,11 +1,16 @@
 //! How far functions reach that shield what is in them, for each token.
-ghost use Rattle.std.specs.Prelude.{◌≡◌, ◌∷◌, [], ℕ, List, drop, if◌then◌else◌, IfOk, OnOk};
+ghost use Rattle.std.specs.Prelude.{◌≡◌, ◌∷◌, ◌<◌, [], ℕ, List, drop, length, if◌then◌else◌, IfOk, OnOk};
 ghost use Rattle.mt_tokens.specs.Shields.{begins_parameter};
 ghost use Rattle.mt_tokens.specs.Sites.{opens};
+ghost use Rattle.mt_tokens.specs.Words.{seen};
 ghost use Rattle.mt_deps.specs.Groups.{body_before, first_group, groups_before, mark_first, span_by, spans_of, without_opened};
+ghost use Rattle.mt_deps.specs.Seen.{seen_of};
 
+use crate::seen::SeenTokens;
 use crate::sites::begins_with;
-use mt_tokens::{Token, is_closing_token, is_mark_token, is_opening_token, is_word_token};
+use mt_tokens::{
+    Token, is_closing_token, is_mark_token, is_opening_token, is_seen_kind, is_word_token,
+};
 use std::alloc::{AllocError, Global};
 use std::marker::Model;
 
@@ -87,10 +92,18 @@ impl Groups {
     }
 }
 
-/// The spans of tokens. Contracts see that of the first token first, which is the last in memory.
+/// A span, and how many spans of 0 are directly after it.
+#[derive(Clone, Copy)]
+pub(crate) struct Span {
+    pub count: usize,
+    pub zeros: usize,
+}
+
+/// The spans of tokens. Contracts see that of the first token first, which is the last in memory. Spans of 0 are counted.
 #[derive(Drop)]
 pub(crate) struct Spans {
-    items: Vec<usize>,
+    items: Vec<Span>,
+    zeros: usize,
 }
 
 impl Model for Spans {
@@ -98,7 +111,9 @@ impl Model for Spans {
 
     ghost Value = { List ℕ };
 
-    ghost view = { λ s. reverse s.items.items };
+    ghost use Rattle.mt_deps.specs.Spans.{spans_in, zeros_before};
+
+    ghost view = { λ s. zeros_before s.zeros (spans_in (reverse s.items.items)) };
 }
 
 impl Spans {
@@ -107,13 +122,20 @@ impl Spans {
     {
         Spans {
             items: Vec::new(alloc),
+            zeros: 0,
         }
     }
 
-    fn push(&mut self, span: usize) -> Result<(), AllocError>
-        ensures { OnOk result (self.new ≡ span ∷ self.old) }
+    fn push(&mut self, count: usize) -> Result<(), AllocError>
+        ensures { OnOk result (self.new ≡ count ∷ self.old) }
     {
-        self.items.push(span)?;
+        if count == 0 && self.zeros < usize::MAX {
+            self.zeros += 1;
+            return Ok(());
+        }
+        let zeros = self.zeros;
+        self.items.push(Span { count, zeros })?;
+        self.zeros = 0;
         Ok(())
     }
 
@@ -122,39 +144,49 @@ impl Spans {
         ensures first { (n : ℕ) (ns : List ℕ) → self.old ≡ n ∷ ns → result ≡ n }
         ensures rest { self.new ≡ drop 1 self.old }
     {
-        self.items.pop().unwrap_or(0)
+        if self.zeros > 0 {
+            self.zeros -= 1;
+            return 0;
+        }
+        let Some(span) = self.items.pop() else {
+            return 0;
+        };
+        self.zeros = span.zeros;
+        span.count
     }
 }
 
 /// Whether the tokens begin with a parameter `require`.
-fn is_parameter(bytes: &[u8], tokens: &[Token]) -> bool
-    ensures { result ≡ begins_parameter bytes.now tokens.now }
+fn is_parameter(bytes: &[u8], tokens: SeenTokens) -> bool
+    ensures { result ≡ begins_parameter bytes.now (seen_of tokens.entry) }
 {
-    match tokens {
-        [first, rest @ ..] => {
-            is_word_token(bytes, b"require", *first)
+    match tokens.split_first() {
+        Some((first, rest)) => {
+            is_word_token(bytes, b"require", first)
                 && (begins_with(bytes, b",", rest)
                     || begins_with(bytes, b")", rest)
                     || begins_with(bytes, b"=", rest))
         }
-        [] => false,
+        None => false,
     }
 }
 
-/// Puts a token before those whose brackets these are.
+/// Puts a token before so many others, whose brackets these are.
 fn put_before(
     bytes: &[u8],
     groups: &mut Groups,
     body: Option<usize>,
     here: Token,
-    after: &[Token],
+    after: SeenTokens,
+    count: usize,
 ) -> Result<(), AllocError>
-    ensures { OnOk result (groups.new ≡ groups_before bytes.now groups.old body here after.now) }
+    requires { count ≡ length (seen_of after) }
+    ensures { OnOk result (groups.new ≡ groups_before bytes.now groups.old body here (seen_of after.entry)) }
 {
     groups.open(bytes, here);
     if is_closing_token(bytes, here) {
         return groups.push(Group {
-            after: after.len(),
+            after: count,
             body,
             has: false,
         });
@@ -169,18 +201,14 @@ fn put_before(
 fn body_at(bytes: &[u8], top: Option<Group>, here: Token) -> Option<usize>
     ensures { result ≡ body_before bytes.now top here }
 {
-    if !is_mark_token(bytes, b"{", here) {
-        return None;
-    }
-    match top {
-        Some(group) => Some(group.after),
-        None => Some(0),
-    }
+    is_mark_token(bytes, b"{", here).then_some(top.map_or(0, |group| group.after))
 }
 
-/// The span of a token whose bracket is `top`.
-fn span_at(bytes: &[u8], top: Option<Group>, here: Token, after: &[Token]) -> usize
-    ensures { result ≡ span_by bytes.now top here after.now }
+/// The span of a token whose bracket is `top`, before so many others.
+fn span_at(bytes: &[u8], top: Option<Group>, here: Token, after: SeenTokens, count: usize) -> usize
+    requires room { count < usize.MAX }
+    requires count { count ≡ length (seen_of after) }
+    ensures { result ≡ span_by bytes.now top here (seen_of after.entry) }
 {
     let Some(group) = top else {
         return 0;
@@ -189,27 +217,34 @@ fn span_at(bytes: &[u8], top: Option<Group>, here: Token, after: &[Token]) -> us
         return 0;
     }
     match group.body {
-        Some(behind) => (after.len() + 1).saturating_sub(behind),
+        Some(behind) => (count + 1).saturating_sub(behind),
         None => 0,
     }
 }
 
-/// The spans of tokens, in one pass from the last one back.
+/// The spans of tokens, in one pass from the last one back. Blanks and comments have none.
 pub(crate) fn read_spans(alloc: Global, bytes: &[u8], tokens: &[Token]) -> Result<Spans, AllocError>
-    ensures { IfOk result (λ s. s ≡ spans_of bytes.now tokens.now) }
+    ensures { IfOk result (λ s. s ≡ spans_of bytes.now (seen tokens.now)) }
 {
     let mut spans = Spans::new(alloc);
     let mut groups = Groups::new(alloc);
     let mut body = None;
+    let mut count = 0usize;
     let mut rest = tokens.len();
     while rest > 0 {
         rest -= 1;
         let here = tokens[rest];
-        let after = &tokens[rest + 1..];
+        if !is_seen_kind(here.kind) {
+            continue;
+        }
+        let after = SeenTokens {
+            tokens: &tokens[rest + 1..],
+        };
         let top = groups.top();
-        spans.push(span_at(bytes, top, here, after))?;
-        put_before(bytes, &mut groups, body, here, after)?;
+        spans.push(span_at(bytes, top, here, after, count))?;
+        put_before(bytes, &mut groups, body, here, after, count)?;
         body = body_at(bytes, top, here);
+        count += 1;
     }
     Ok(spans)
 }

@@ -10,7 +10,7 @@ use Rattle.std.proofs.lemmas.Fmt.{digits_decimal, IsAscii-decimal, length-decima
 use Rattle.std.proofs.lemmas.List.Folds.{list_all-append}
 use Rattle.std.proofs.lemmas.Str.{IsUtf8-append, IsUtf8-from_ascii, IsUtf8-from_is_utf8, is_utf8-from_IsUtf8}
 use Rattle.std.proofs.lemmas.Str.Ascii.{IsAscii-cons, IsAscii-nil}
-use Rattle.mt_tokens.proofs.Ascii.{word_ascii}
+use Rattle.mt_chars.proofs.Ascii.{word_ascii}
 use Rattle.mt_path.specs.Names.{is_root}
 use Rattle.mt_path.specs.Parse.{IsPath}
 use Rattle.mt_path.specs.Segments.{is_segment, is_segment_byte, segments_of, text_of}

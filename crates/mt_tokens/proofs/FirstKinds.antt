@@ -1,19 +1,18 @@
 -- Which of the kinds fits first.
 use Rattle.std.proofs.Common.{arith, ◌≡◌, ◌<◌, ℕ, Bool, true, false, cond, nat_lt, List, [], ◌∷◌, length, get_or, refl, ap, ◌∙◌, Ok, Err, Result}
 use Rattle.std.proofs.lemmas.Bool.Decides.{nat_tests}
-use Rattle.mt_tokens.specs.Classes.{is_quote}
+use Rattle.mt_chars.specs.Names.{name_len, private_len, run_len}
+use Rattle.mt_chars.specs.Numbers.{begins_number, number_len}
+use Rattle.mt_chars.specs.declared.names.RunOf.TheVariants.{Blanks}
+use Rattle.mt_tokens.specs.Strings.{is_quote, string_of}
 use Rattle.mt_tokens.specs.Comments.{begins_comment, comment_of}
 use Rattle.mt_tokens.specs.Front.{front_of, other_of}
-use Rattle.mt_tokens.specs.Names.{name_len, private_len, run_len}
-use Rattle.mt_tokens.specs.Numbers.{begins_number, number_len}
-use Rattle.mt_tokens.specs.Punctuators.{punct_len}
+use Rattle.mt_tokens.specs.Punctuators.{punct_of}
 use Rattle.mt_tokens.specs.Regexes.{begins_regex, regex_of}
-use Rattle.mt_tokens.specs.Strings.{string_of}
 use Rattle.mt_tokens.specs.Templates.{begins_piece, piece_of}
 use Rattle.mt_tokens.specs.declared.front.Before.{Before}
-use Rattle.mt_tokens.specs.declared.names.RunOf.TheVariants.{Blanks}
 use Rattle.mt_tokens.specs.declared.token.TokenKind.{TokenKind}
-use Rattle.mt_tokens.specs.declared.token.TokenKind.TheVariants.{Space, Ident, Private, Number, Punct}
+use Rattle.mt_tokens.specs.declared.token.TokenKind.TheVariants.{Space, Ident, Private, Number}
 use Rattle.mt_tokens.specs.declared.token.TokenFault.{TokenFault}
 use Rattle.mt_tokens.specs.declared.token.TokenFault.TheVariants.{BadByte}
 
@@ -23,9 +22,6 @@ Found = Result (TokenKind × ℕ) TokenFault
 
 no_length : (n : ℕ) → n ≡ 0 → nat_lt 0 n ≡ false
 no_length n e = grind (arith, nat_tests)
-
-a_length : (n : ℕ) → 0 < n → nat_lt 0 n ≡ true
-a_length n e = grind (arith, nat_tests)
 
 second : (p q : Bool) (x y o : Found) → p ≡ false → q ≡ true → cond p x (cond q y o) ≡ y
 second p q x y o e f = ap (λ t. cond t x (cond q y o)) e ∙ ap (λ t. cond t y o) f
@@ -54,13 +50,13 @@ front_other before place (b ∷ rest) z c n =
     (no_length (name_len (b ∷ rest)) n)
 
 -- past all kinds but punctuators
-other_punct :
+pub other_is_punct :
     (before : Before) (place : ℕ) (rest : List ℕ) → 0 < length rest → private_len rest ≡ 0 → begins_number rest ≡ false → is_quote (get_or rest 0 0) ≡ false →
     begins_piece before.in_template (get_or rest 0 0) ≡ false → begins_regex before.operand (get_or rest 0 0) ≡ false →
-    other_of before place rest ≡ cond (nat_lt 0 (punct_len rest)) (Ok (Punct, punct_len rest)) (Err (BadByte place))
-other_punct before place [] l p n q t r = absurd (omega arith)
-other_punct before place (b ∷ rest) l p n q t r =
-    let punct : Found = cond (nat_lt 0 (punct_len (b ∷ rest))) (Ok (Punct, punct_len (b ∷ rest))) (Err (BadByte place)) in
+    other_of before place rest ≡ punct_of place rest
+other_is_punct before place [] l p n q t r = absurd (omega arith)
+other_is_punct before place (b ∷ rest) l p n q t r =
+    let punct : Found = punct_of place (b ∷ rest) in
     let late : Found = cond (begins_piece before.in_template b) (piece_of place (b ∷ rest)) (cond (begins_regex before.operand b) (regex_of place (b ∷ rest)) punct) in
     after_three (nat_lt 0 (private_len (b ∷ rest))) (begins_number (b ∷ rest)) (is_quote b) (Ok (Private, private_len (b ∷ rest))) (Ok (Number, number_len (b ∷ rest)))
     (string_of place (b ∷ rest))
@@ -69,17 +65,3 @@ other_punct before place (b ∷ rest) l p n q t r =
     n
     q
     ∙ after_three (begins_piece before.in_template b) (begins_regex before.operand b) false (piece_of place (b ∷ rest)) (regex_of place (b ∷ rest)) (Err (BadByte place)) punct t r refl
-
-pub other_is_punct :
-    (before : Before) (place : ℕ) (rest : List ℕ) → 0 < length rest → private_len rest ≡ 0 → begins_number rest ≡ false → is_quote (get_or rest 0 0) ≡ false →
-    begins_piece before.in_template (get_or rest 0 0) ≡ false → begins_regex before.operand (get_or rest 0 0) ≡ false → 0 < punct_len rest →
-    other_of before place rest ≡ Ok (Punct, punct_len rest)
-other_is_punct before place rest l p n q t r h =
-    other_punct before place rest l p n q t r ∙ ap (λ x. cond x (Ok (Punct, punct_len rest)) (Err (BadByte place))) (a_length (punct_len rest) h)
-
-pub other_is_bad :
-    (before : Before) (place : ℕ) (rest : List ℕ) → 0 < length rest → private_len rest ≡ 0 → begins_number rest ≡ false → is_quote (get_or rest 0 0) ≡ false →
-    begins_piece before.in_template (get_or rest 0 0) ≡ false → begins_regex before.operand (get_or rest 0 0) ≡ false → punct_len rest ≡ 0 →
-    other_of before place rest ≡ Err (BadByte place)
-other_is_bad before place rest l p n q t r h =
-    other_punct before place rest l p n q t r ∙ ap (λ x. cond x (Ok (Punct, punct_len rest)) (Err (BadByte place))) (no_length (punct_len rest) h)

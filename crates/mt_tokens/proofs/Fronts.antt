@@ -3,27 +3,27 @@ use Rattle.std.proofs.Common.{Bool, arith, ◌≡◌, ◌==◌, ◌<◌, ◌≤�
 use Rattle.std.specs.List.{list_all, starts_with}
 use Rattle.std.specs.Result.{IfOk}
 use Rattle.std.specs.Cmp.Lexicographic.{pointwise}
-use Rattle.mt_tokens.specs.Front.{front_of}
-use Rattle.mt_tokens.specs.Comments.{begins_comment, comment_of, block_len}
-use Rattle.mt_tokens.specs.Numbers.{begins_number}
-use Rattle.mt_tokens.specs.Strings.{string_of, closing_len}
-use Rattle.mt_tokens.proofs.Extents.{starts_within, block_within, body_within, closing_within, comment_some, line_within, name_within, number_within, piece_within, private_within, runs_within}
-use Rattle.mt_tokens.specs.declared.token.TokenKind.TheVariants.{Comment, Regex, Str}
-use Rattle.mt_tokens.specs.declared.token.TokenFault.TheVariants.{UnclosedComment, UnclosedRegex, UnclosedString, UnclosedTemplate}
 use Rattle.std.specs.Option.{option_map_or, IfSome}
-use Rattle.mt_tokens.specs.Classes.{is_quote}
-use Rattle.mt_tokens.specs.Names.{name_len, private_len, run_len}
-use Rattle.mt_tokens.specs.Regexes.{begins_regex, body_len, regex_of}
-use Rattle.mt_tokens.specs.Templates.{begins_piece, piece_kind, piece_len, piece_of}
-use Rattle.mt_tokens.specs.declared.front.Before.{Before}
-use Rattle.mt_tokens.specs.declared.names.RunOf.TheVariants.{Blanks, Flags}
-use Rattle.mt_tokens.specs.Punctuators.{punct_len, is_among, of_four, of_three, of_two, of_one, is_choice_of_number}
-use Rattle.mt_tokens.specs.declared.token.TokenKind.{TokenKind}
-use Rattle.mt_tokens.specs.declared.token.TokenFault.{TokenFault}
 use Rattle.std.proofs.lemmas.List.{length-take, length-drop}
 use Rattle.std.proofs.lemmas.Bool.Decides.{nat_tests, Decides-eqb}
 use Rattle.std.proofs.lemmas.Bool.{ltb-true}
 use Rattle.std.proofs.lemmas.Slice.Eq.{slice_eq-Decides}
+use Rattle.mt_chars.specs.Numbers.{begins_number}
+use Rattle.mt_chars.proofs.Extents.{name_within, number_within, private_within, runs_within}
+use Rattle.mt_chars.specs.Names.{name_len, private_len, run_len}
+use Rattle.mt_chars.specs.declared.names.RunOf.TheVariants.{Blanks, Flags}
+use Rattle.mt_tokens.specs.Front.{front_of}
+use Rattle.mt_tokens.specs.Comments.{begins_comment, comment_of, block_len}
+use Rattle.mt_tokens.specs.Strings.{string_of, closing_len, is_quote}
+use Rattle.mt_tokens.proofs.Extents.{starts_within, block_within, body_within, closing_within, comment_some, line_within, piece_within}
+use Rattle.mt_tokens.specs.declared.token.TokenKind.TheVariants.{Comment, Regex, Str}
+use Rattle.mt_tokens.specs.declared.token.TokenFault.TheVariants.{UnclosedComment, UnclosedRegex, UnclosedString, UnclosedTemplate}
+use Rattle.mt_tokens.specs.Regexes.{begins_regex, body_len, regex_of}
+use Rattle.mt_tokens.specs.Templates.{begins_piece, piece_kind, piece_len, piece_of}
+use Rattle.mt_tokens.specs.declared.front.Before.{Before}
+use Rattle.mt_tokens.specs.Punctuators.{punct_len, is_among, of_four, of_three, of_two, of_one, is_choice_of_number}
+use Rattle.mt_tokens.specs.declared.token.TokenKind.{TokenKind}
+use Rattle.mt_tokens.specs.declared.token.TokenFault.{TokenFault}
 
 -- a text among texts of one length has that length
 pub among_length : (n : ℕ) (texts : List (List ℕ)) (text : List ℕ) → list_all (λ t. length t == n) texts ≡ true → is_among texts text ≡ true → length text ≡ n

@@ -1,13 +1,12 @@
-pub mod Ascii
-pub mod Characters
 pub mod Cuts
 pub mod Extents
 pub mod Fronts
 pub mod HasTokens
 pub mod FirstKinds
+pub mod FirstBytes
 pub mod Openings
-pub mod Parts
 pub mod Punctuation
-pub mod Runs
+pub mod Puts
+pub mod Replaced
 pub mod Scans
 pub mod Walks

@@ -1,8 +1,8 @@
 -- The punctuator that a text begins with, from its first four bytes.
 use Rattle.std.proofs.Common.{ℕ, ◌&&◌, ◌≡◌, List, [], ◌∷◌, get_or, cond, refl, eqb}
 use Rattle.std.specs.Cmp.Lexicographic.{pointwise}
+use Rattle.mt_chars.specs.Classes.{is_digit}
 use Rattle.mt_tokens.specs.Punctuators.{punct_len, of_four, of_three, of_two, of_one, is_among}
-use Rattle.mt_tokens.specs.Classes.{is_digit}
 
 -- by the four bytes, of which those past the end are 0
 pub punct_len_by_bytes :

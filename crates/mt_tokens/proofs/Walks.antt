@@ -1,19 +1,15 @@
--- The walks of comments and strings, a byte at a time.
-use Rattle.std.proofs.Common.{ℕ, Bool, true, false, ◌≡◌, ◌<◌, ◌≤◌, ◌+◌, ◌-◌, List, [], ◌∷◌, length, take, drop, get_or, nat_lt, ◌≢◌, arith, refl, sym, ap, ◌∙◌, cond, eqb, Option, Some, None, suc, zero, add-one}
+-- The walks of comments, strings, templates and regular expressions, a byte at a time.
+use Rattle.std.proofs.Common.{ℕ, Bool, true, false, ◌≡◌, ◌<◌, ◌≤◌, ◌+◌, ◌-◌, List, [], ◌∷◌, length, drop, get_or, nat_lt, ◌≢◌, arith, refl, sym, ap, ◌∙◌, cond, eqb, Option, Some, None, suc, zero}
 use Rattle.std.specs.Option.{option_map}
 use Rattle.std.specs.List.{starts_with}
-use Rattle.std.proofs.Math.Seq.{drop-cons}
-use Rattle.std.proofs.lemmas.List.{drop_all, get_or-drop, take_all, drop-drop, length-drop}
+use Rattle.std.proofs.lemmas.List.{drop_all, get_or-drop, drop-drop}
 use Rattle.std.proofs.lemmas.Bool.Decides.{nat_tests}
-use Rattle.mt_tokens.specs.Comments.{begins_line_end, line_len, block_len}
-use Rattle.mt_tokens.specs.Classes.{is_free}
+use Rattle.mt_chars.specs.LineEnds.{begins_line_end, escape_len}
+use Rattle.mt_chars.proofs.Rests.{drop_front}
+use Rattle.mt_tokens.specs.Comments.{line_len, block_len}
+use Rattle.mt_tokens.specs.Templates.{is_free, opens_hole, piece_len}
 use Rattle.mt_tokens.specs.Regexes.{body_len, ends_body, is_class_after}
-use Rattle.mt_tokens.specs.Templates.{opens_hole, piece_len}
-use Rattle.mt_tokens.specs.Strings.{closing_len, escape_len}
-
--- the rest of a text from a place on, as its first byte and those after it
-pub drop_front : (rest : List ℕ) (at : ℕ) → at < length rest → drop at rest ≡ get_or rest at 0 ∷ drop (at + 1) rest
-drop_front rest at h = drop-cons rest at 0 h ∙ ap (λ n. get_or rest at 0 ∷ drop n rest) (sym (add-one at))
+use Rattle.mt_tokens.specs.Strings.{closing_len}
 
 -- lengths that are counted on from a later place
 pub counted_on : (x : Option ℕ) (at more : ℕ) → option_map (λ n. n + at) (option_map (λ n. n + more) x) ≡ option_map (λ n. n + (at + more)) x
@@ -31,10 +27,6 @@ counted_from (Some n) more = ap Some (omega arith)
 pub counted_twice : (x : Option ℕ) (at more : ℕ) → option_map (λ n. n + at) (option_map (λ n. n + 1) (option_map (λ n. n + more) x)) ≡ option_map (λ n. n + (at + 1 + more)) x
 counted_twice None at more = refl
 counted_twice (Some n) at more = ap Some (omega arith)
-
--- the slice from a place on is the rest of the text
-pub slice_from : (rest : List ℕ) (at : ℕ) → take (length rest - at) (drop at rest) ≡ drop at rest
-slice_from rest at = take_all (length rest - at) (drop at rest) (omega (arith, length-drop at rest))
 
 -- a byte that begins no line end is passed
 pub line_more : (rest : List ℕ) (at : ℕ) → at < length rest → begins_line_end (drop at rest) ≡ false → at + line_len (drop at rest) ≡ at + 1 + line_len (drop (at + 1) rest)
@@ -91,10 +83,6 @@ closing_pass quote rest at b taken h g q l r k =
     let e : closing_len quote taken (drop (at + 1) rest) ≡ option_map (λ n. n + taken) (closing_len quote 0 (drop (at + 1 + taken) rest)) =
     closing_taken quote taken (drop (at + 1) rest) ∙ ap (λ x. option_map (λ n. n + taken) (closing_len quote 0 x)) (drop-drop taken (at + 1) rest) in
     rw (c, e) (counted_twice (closing_len quote 0 (drop (at + 1 + taken) rest)) at taken)
-
--- a `\` takes two bytes at most
-pub escape_few : (rest : List ℕ) → escape_len rest ≤ 2
-escape_few rest = elim (starts_with eqb rest (13 ∷ 10 ∷ [])) as (λ t. cond t 2 1 ≤ 2) [ true ↦ omega arith | false ↦ omega arith ]
 
 -- ---- pieces of templates, and regular expressions
 

@@ -1,7 +1,8 @@
 -- Comments.
-use Rattle.std.specs.Prelude.{ℕ, Bool, ◌+◌, ◌&&◌, ◌||◌, ◌==◌, List, [], ◌∷◌, drop, nat_eq, slice_index, codes, if◌then◌else◌, Option, Some, None, option_map, Result, Ok, Err}
+use Rattle.std.specs.Prelude.{ℕ, Bool, ◌+◌, ◌&&◌, ◌||◌, ◌==◌, List, [], ◌∷◌, drop, nat_eq, codes, if◌then◌else◌, Option, Some, None, option_map, Result, Ok, Err}
 use Rattle.std.specs.List.{starts_with}
 use Rattle.std.specs.Option.{option_map_or}
+use Rattle.mt_chars.specs.LineEnds.{begins_line_end}
 use Rattle.mt_tokens.specs.declared.token.TokenKind.{TokenKind}
 use Rattle.mt_tokens.specs.declared.token.TokenKind.TheVariants.{Comment}
 use Rattle.mt_tokens.specs.declared.token.TokenFault.{TokenFault}
@@ -11,11 +12,6 @@ use Rattle.mt_tokens.specs.declared.token.TokenFault.TheVariants.{UnclosedCommen
 abbrev pub begins_comment : ℕ → List ℕ → Bool
 begins_comment place rest =
     starts_with nat_eq rest (codes "//") || starts_with nat_eq rest (codes "/*") || (place == 0 && starts_with nat_eq rest (codes "#!"))
-
--- whether the text begins with a line end: line feed, carriage return, U+2028 or U+2029
-abbrev pub begins_line_end : List ℕ → Bool
-begins_line_end rest =
-    slice_index rest 0 == 10 || slice_index rest 0 == 13 || (slice_index rest 0 == 226 && slice_index rest 1 == 128 && (slice_index rest 2 == 168 || slice_index rest 2 == 169))
 
 -- the length up to before the next line end, or to the end
 abbrev pub line_len : List ℕ → ℕ

@@ -1,5 +1,5 @@
 -- What is found in a script: its dependencies, what takes the place of parts of it, and what it exports.
-use Rattle.std.specs.Prelude.{ℕ, ◌+◌, Bool, true, false, ◌&&◌, List, [], ◌∷◌, ◌++◌, map, if◌then◌else◌, Option, Some, None, is_some, option_map, unwrap_or, Result, Ok, Err}
+use Rattle.std.specs.Prelude.{ℕ, ◌+◌, Bool, true, false, ◌&&◌, List, [], ◌∷◌, ◌++◌, if◌then◌else◌, Option, Some, None, is_some, option_map, unwrap_or, Result, Ok, Err}
 use Rattle.std.specs.List.{count_by, filter_map, flat_map, fold, list_any}
 use Rattle.std.specs.Str.{bytes_eq}
 use Rattle.mt_tokens.specs.Readings.{found_in}

@@ -1,7 +1,7 @@
 -- The forms of imports and exports.
 use Rattle.std.specs.Prelude.{ℕ, ◌==◌, Bool, false, not, ◌&&◌, ◌||◌, List, [], ◌∷◌, ◌++◌, drop, map, filter, if◌then◌else◌, Option, Some, None, is_some, option_map, option_and_then, codes}
 use Rattle.std.specs.Option.{option_map_or}
-use Rattle.mt_tokens.specs.Escapes.{cooked}
+use Rattle.mt_chars.specs.Escapes.{cooked}
 use Rattle.mt_tokens.specs.Sites.{Site, begins, begins_word, first_name, is_plain_at, sites, until}
 use Rattle.mt_tokens.specs.Words.{bytes_of, is_ident, is_mark, is_plain_after, is_str, is_word}
 use Rattle.mt_tokens.specs.declared.forms.Bound.{Bound}

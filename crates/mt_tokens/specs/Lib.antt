@@ -1,13 +1,10 @@
 pub mod Brackets
-pub mod Classes
 pub mod Comments
+pub mod Cut
 pub mod Deps
-pub mod Escapes
 pub mod Forms
 pub mod Front
 pub mod Goals
-pub mod Names
-pub mod Numbers
 pub mod Openers
 pub mod Punctuators
 pub mod Readings

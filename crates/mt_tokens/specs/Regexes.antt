@@ -1,10 +1,10 @@
 -- Regular expressions.
 use Rattle.std.specs.Prelude.{ℕ, Bool, true, false, ◌+◌, ◌&&◌, ◌==◌, not, List, [], ◌∷◌, drop, if◌then◌else◌, Option, Some, None, option_map, Result, Ok, Err}
 use Rattle.std.specs.Option.{option_map_or}
-use Rattle.mt_tokens.specs.Classes.{is_free}
-use Rattle.mt_tokens.specs.Comments.{begins_line_end}
-use Rattle.mt_tokens.specs.Names.{run_len}
-use Rattle.mt_tokens.specs.declared.names.RunOf.TheVariants.{Flags}
+use Rattle.mt_chars.specs.LineEnds.{begins_line_end}
+use Rattle.mt_chars.specs.Names.{run_len}
+use Rattle.mt_chars.specs.declared.names.RunOf.TheVariants.{Flags}
+use Rattle.mt_tokens.specs.Templates.{is_free}
 use Rattle.mt_tokens.specs.declared.token.TokenKind.{TokenKind}
 use Rattle.mt_tokens.specs.declared.token.TokenKind.TheVariants.{Regex}
 use Rattle.mt_tokens.specs.declared.token.TokenFault.{TokenFault}

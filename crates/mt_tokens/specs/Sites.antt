@@ -1,5 +1,5 @@
 -- Tokens where they stand.
-use Rattle.std.specs.Prelude.{ℕ, ◌+◌, ◌-◌, ◌==◌, Bool, false, not, ◌&&◌, List, [], ◌∷◌, if◌then◌else◌, Option, Some, None}
+use Rattle.std.specs.Prelude.{ℕ, ◌+◌, ◌-◌, ◌==◌, Bool, false, not, List, [], ◌∷◌, if◌then◌else◌, Option, Some, None}
 use Rattle.mt_tokens.specs.Brackets.{closing, opening}
 use Rattle.mt_tokens.specs.Words.{is_ident, is_mark, is_plain, is_word}
 use Rattle.mt_tokens.specs.declared.token.Token.{Token}

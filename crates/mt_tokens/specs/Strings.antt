@@ -1,16 +1,15 @@
 -- Strings.
-use Rattle.std.specs.Prelude.{ℕ, ◌+◌, ◌-◌, ◌||◌, ◌==◌, List, [], ◌∷◌, nat_eq, nat_lt, if◌then◌else◌, Option, Some, None, option_map, Result, Ok, Err}
-use Rattle.std.specs.List.{starts_with}
+use Rattle.std.specs.Prelude.{ℕ, Bool, ◌+◌, ◌-◌, ◌||◌, ◌==◌, List, [], ◌∷◌, nat_lt, if◌then◌else◌, Option, Some, None, option_map, Result, Ok, Err}
 use Rattle.std.specs.Option.{option_map_or}
+use Rattle.mt_chars.specs.LineEnds.{escape_len}
 use Rattle.mt_tokens.specs.declared.token.TokenKind.{TokenKind}
 use Rattle.mt_tokens.specs.declared.token.TokenKind.TheVariants.{Str}
 use Rattle.mt_tokens.specs.declared.token.TokenFault.{TokenFault}
 use Rattle.mt_tokens.specs.declared.token.TokenFault.TheVariants.{UnclosedString}
 
--- how many bytes a `\` takes with it from those after it: of a longer character the first, since no other byte of it is a
--- quote, a `\` or a line end
-abbrev pub escape_len : List ℕ → ℕ
-escape_len rest = if starts_with nat_eq rest (13 ∷ 10 ∷ []) then 2 else 1
+-- `"` and `'`
+abbrev pub is_quote : ℕ → Bool
+is_quote b = b == 34 || b == 39
 
 -- the length through the closing quote, where so many bytes at the start are taken by a `\`; none where a line end or the end comes first
 abbrev pub closing_len : ℕ → ℕ → List ℕ → Option ℕ

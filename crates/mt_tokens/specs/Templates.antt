@@ -1,11 +1,14 @@
 -- The pieces of templates.
-use Rattle.std.specs.Prelude.{ℕ, Bool, false, ◌+◌, ◌-◌, ◌&&◌, ◌||◌, ◌==◌, List, [], ◌∷◌, slice_index, if◌then◌else◌, Option, Some, None, option_map, Result, Ok, Err}
+use Rattle.std.specs.Prelude.{ℕ, Bool, false, not, ◌+◌, ◌-◌, ◌&&◌, ◌||◌, ◌==◌, List, [], ◌∷◌, slice_index, if◌then◌else◌, Option, Some, None, option_map, Result, Ok, Err}
 use Rattle.std.specs.Option.{option_map_or}
-use Rattle.mt_tokens.specs.Classes.{is_free}
 use Rattle.mt_tokens.specs.declared.token.TokenKind.{TokenKind}
 use Rattle.mt_tokens.specs.declared.token.TokenKind.TheVariants.{Whole, Head, Middle, Tail}
 use Rattle.mt_tokens.specs.declared.token.TokenFault.{TokenFault}
 use Rattle.mt_tokens.specs.declared.token.TokenFault.TheVariants.{UnclosedTemplate}
+
+-- whether a byte is the wanted one, and no `\` takes it
+abbrev pub is_free : Bool → ℕ → ℕ → Bool
+is_free taken b wanted = not taken && b == wanted
 
 -- whether a piece begins with this byte: a backtick, or a `}` that closes a `${`
 abbrev pub begins_piece : Bool → ℕ → Bool

@@ -5,7 +5,7 @@ use Rattle.std.specs.Bool.{nat_eq}
 use Rattle.std.specs.Str.{is_utf8}
 use Rattle.std.specs.Str.Lossy.{utf8_valid_len}
 use Rattle.serde_json.specs.Read.{read}
-use Rattle.mt_tokens.specs.Comments.{begins_line_end}
+use Rattle.mt_chars.specs.LineEnds.{begins_line_end}
 use Rattle.mt_tokens.specs.Deps.{Dependency, Deps, Edit, deps_of}
 use Rattle.mt_tokens.specs.Tokens.{tokens_of}
 use Rattle.mt_tokens.specs.Words.{bytes_of}

@@ -1,9 +1,9 @@
 //! Comments.
 ghost use Rattle.std.specs.Prelude.{◌≡◌};
-ghost use Rattle.mt_tokens.specs.Comments.{begins_comment, begins_line_end, line_len, block_len, comment_of};
+ghost use Rattle.mt_tokens.specs.Comments.{begins_comment, line_len, block_len, comment_of};
 
-use crate::classes::byte_at;
 use crate::{TokenFault, TokenKind};
+use mt_chars::{begins_line_end_at, byte_at};
 
 /// Whether `rest` begins with a comment, at `place` in the text.
 pub(crate) fn begins_comment_at(place: u32, rest: &[u8]) -> bool
@@ -12,17 +12,6 @@ pub(crate) fn begins_comment_at(place: u32, rest: &[u8]) -> bool
     match [byte_at(rest, 0), byte_at(rest, 1)] {
         [b'/', b'/' | b'*'] => true,
         [b'#', b'!'] => place == 0,
-        _ => false,
-    }
-}
-
-/// Whether the text begins with a line end: a line feed, a carriage return, U+2028 or U+2029.
-pub fn begins_line_end_at(rest: &[u8]) -> bool
-    ensures { result ≡ begins_line_end rest.now }
-{
-    match byte_at(rest, 0) {
-        b'\n' | b'\r' => true,
-        0xE2 => byte_at(rest, 1) == 0x80 && (byte_at(rest, 2) == 0xA8 || byte_at(rest, 2) == 0xA9),
         _ => false,
     }
 }

@@ -4,7 +4,7 @@ ghost use Rattle.mt_tokens.specs.Sites.{closes, opens};
 
 use crate::Token;
 use crate::brackets::{closed_byte, opened_byte};
-use crate::classes::byte_at;
+use mt_chars::byte_at;
 
 /// Whether the token opens a bracket or a `${`.
 pub fn is_opening_token(bytes: &[u8], token: Token) -> bool

@@ -2,15 +2,15 @@
 ghost use Rattle.std.specs.Prelude.{◌≡◌};
 ghost use Rattle.mt_tokens.specs.Front.{front_of, other_of};
 
-use crate::classes::is_quote_byte;
 use crate::comments::{begins_comment_at, comment};
-use crate::names::{RunOf, front_name_len, front_private_len, front_run_len};
-use crate::numbers::{begins_number_at, front_number_len};
-use crate::punctuators::front_punct_len;
+use crate::punctuators::{is_lone_mark, punctuator};
 use crate::regexes::{begins_regex_at, regex};
-use crate::strings::string;
+use crate::strings::{is_quote_byte, string};
 use crate::templates::{begins_piece_at, piece};
 use crate::{TokenFault, TokenKind};
+use mt_chars::{
+    RunOf, begins_number_at, front_name_len, front_number_len, front_private_len, front_run_len,
+};
 
 /// What the tokens before a place tell of the next one.
 #[derive(Clone, Copy, Debug)]
@@ -46,20 +46,12 @@ fn other_token(before: Before, place: u32, rest: &[u8]) -> Result<(TokenKind, us
     if begins_regex_at(before.operand, first) {
         return regex(place, rest);
     }
-    let len = front_punct_len(rest);
-    if len > 0 {
-        return Ok((TokenKind::Punct, len));
-    }
-    Err(TokenFault::BadByte { place })
+    punctuator(place, rest)
 }
 
 /// The kind and the length of the token that `rest` begins with, at `place` in the text: of the first kind that fits.
 /// Refused where none fits.
-pub(crate) fn front_token(
-    before: Before,
-    place: u32,
-    rest: &[u8],
-) -> Result<(TokenKind, usize), TokenFault>
+fn any_token(before: Before, place: u32, rest: &[u8]) -> Result<(TokenKind, usize), TokenFault>
     ensures { result ≡ front_of before place rest.now }
 {
     let [_, ..] = rest else {
@@ -77,4 +69,19 @@ pub(crate) fn front_token(
         return Ok((TokenKind::Ident, name));
     }
     other_token(before, place, rest)
+}
+
+/// The same, where most punctuators and names are told by their first byte.
+pub(crate) fn front_token(
+    before: Before,
+    place: u32,
+    rest: &[u8],
+) -> Result<(TokenKind, usize), TokenFault>
+    ensures { result ≡ front_of before place rest.now }
+{
+    match rest {
+        [first, ..] if is_lone_mark(*first) => Ok((TokenKind::Punct, 1)),
+        [first, ..] if first.is_ascii_alphabetic() => Ok((TokenKind::Ident, front_name_len(rest))),
+        _ => any_token(before, place, rest),
+    }
 }

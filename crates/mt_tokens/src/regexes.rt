@@ -2,10 +2,9 @@
 ghost use Rattle.std.specs.Prelude.{◌≡◌, false};
 ghost use Rattle.mt_tokens.specs.Regexes.{begins_regex, body_len, ends_body, is_class_after, regex_of};
 
-use crate::classes::is_free_byte;
-use crate::comments::begins_line_end_at;
-use crate::names::{RunOf, front_run_len};
+use crate::templates::is_free_byte;
 use crate::{TokenFault, TokenKind};
+use mt_chars::{RunOf, begins_line_end_at, front_run_len};
 
 /// Whether a regular expression begins with this byte, where an operand may come or not.
 pub(crate) fn begins_regex_at(operand: bool, b: u8) -> bool

@@ -9,10 +9,10 @@ ghost use Rattle.mt_tokens.specs.Words.{bytes_of, is_one_of, is_word};
 ghost use Rattle.mt_tokens.specs.declared.token.Token.{Token};
 
 use crate::brackets::{Opener, Openers, closed_byte, opened_byte};
-use crate::classes::byte_at;
 use crate::front::Before;
 use crate::words::{is_plain_here, is_seen_kind, is_word_token, token_bytes};
 use crate::{Token, TokenFault, TokenKind};
+use mt_chars::byte_at;
 use std::alloc::Global;
 
 /// What is known after the tokens read so far.

@@ -1,15 +1,17 @@
 //! Strings in quotes.
-ghost use Rattle.std.specs.Prelude.{◌≡◌};
-ghost use Rattle.mt_tokens.specs.Strings.{escape_len, closing_len, string_of};
+ghost use Rattle.std.specs.Prelude.{◌≡◌, IfOk};
+ghost use Rattle.mt_chars.specs.Escapes.{cooked};
+ghost use Rattle.mt_tokens.specs.Strings.{closing_len, is_quote, string_of};
 
-use crate::{TokenFault, TokenKind};
+use crate::{Text, TokenFault, TokenKind};
+use mt_chars::{front_escape_len, string_value};
+use std::alloc::{AllocError, Global};
 
-/// How many bytes a `\` takes with it from those after it: a carriage return and a line feed are
-/// one character.
-pub(crate) fn front_escape_len(rest: &[u8]) -> usize
-    ensures { result ≡ escape_len rest.now }
+/// What a string begins with: `"` or `'`.
+pub(crate) fn is_quote_byte(b: u8) -> bool
+    ensures { result ≡ is_quote b }
 {
-    if rest.starts_with(b"\r\n") { 2 } else { 1 }
+    b == b'"' || b == b'\''
 }
 
 /// The length through the closing quote; none where a line end or the end comes first.
@@ -43,5 +45,16 @@ pub(crate) fn string(place: u32, rest: &[u8]) -> Result<(TokenKind, usize), Toke
     match front_closing_len(*quote, body) {
         Some(len) => Ok((TokenKind::Str, len + 1)),
         None => Err(TokenFault::UnclosedString { place }),
+    }
+}
+
+/// The value of a string in quotes, `literal` being a token of the kind `Str`. There is none where an escape of it spells no
+/// character: `\1` to `\9`, `\0` before a digit, `\x` or `\u` without their digits, a number above U+10FFFF or a surrogate alone.
+pub fn cook(alloc: Global, literal: &str) -> Result<Option<Text>, AllocError>
+    ensures value { IfOk result (λ value. value ≡ cooked literal.now) }
+{
+    match string_value(alloc, literal)? {
+        Some(value) => Ok(Some(Text::from_string(value))),
+        None => Ok(None),
     }
 }

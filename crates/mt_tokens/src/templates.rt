@@ -1,9 +1,16 @@
 //! The pieces of templates.
 ghost use Rattle.std.specs.Prelude.{◌≡◌, false};
-ghost use Rattle.mt_tokens.specs.Templates.{begins_piece, opens_hole, piece_kind, piece_len, piece_of};
+ghost use Rattle.mt_tokens.specs.Templates.{begins_piece, is_free, opens_hole, piece_kind, piece_len, piece_of};
 
-use crate::classes::{byte_at, is_free_byte};
 use crate::{TokenFault, TokenKind};
+use mt_chars::byte_at;
+
+/// Whether a byte is the wanted one, and no `\` takes it.
+pub(crate) fn is_free_byte(taken: bool, b: u8, wanted: u8) -> bool
+    ensures { result ≡ is_free taken b wanted }
+{
+    !taken && b == wanted
+}
 
 /// Whether a piece begins with this byte, where a `}` may close a `${` or not.
 pub(crate) fn begins_piece_at(in_template: bool, b: u8) -> bool

@@ -1,23 +1,26 @@
 //! What a token is, by its kind and its bytes.
-ghost use Rattle.std.specs.Prelude.{◌≡◌, ◌-◌, take, drop, codes};
+ghost use Rattle.std.specs.Prelude.{◌≡◌, codes};
+ghost use Rattle.mt_tokens.specs.Tokens.{IsCut};
 ghost use Rattle.mt_tokens.specs.Words.{bytes_of, is_access, is_mark, is_plain, is_plain_after, is_seen, is_word};
 
 use crate::{Token, TokenKind};
-
-/// The bytes of a range, as far as they are there.
-pub fn part(bytes: &[u8], start: usize, end: usize) -> &[u8]
-    ensures bytes { result.now ≡ take (end - start) (drop start bytes.now) }
-{
-    let end = end.min(bytes.len());
-    let start = start.min(end);
-    &bytes[start..end]
-}
+use mt_chars::part;
 
 /// The bytes of a token of the text.
 pub fn token_bytes(bytes: &[u8], token: Token) -> &[u8]
     ensures bytes { result.now ≡ bytes_of bytes.now token }
 {
     part(bytes, token.start as usize, token.end as usize)
+}
+
+/// The text of a token, which is cut between characters.
+pub fn token_text(text: &str, token: Token) -> &str
+    requires cut { IsCut text.now token }
+    ensures text { result.now ≡ bytes_of text.now token }
+{
+    let start = token.start as usize;
+    let end = token.end as usize;
+    if start < end { &text[start..end] } else { "" }
 }
 
 /// Whether tokens of this kind are neither blanks nor comments.
@@ -49,8 +52,8 @@ fn is_access_mark(bytes: &[u8], token: Token) -> bool
 }
 
 /// Whether a word after this token is no property.
-pub(crate) fn is_plain_here(bytes: &[u8], before: Option<Token>) -> bool
-    ensures { result ≡ is_plain_after bytes.now before }
+pub fn is_plain_here(bytes: &[u8], before: Option<Token>) -> bool
+    ensures plain { result ≡ is_plain_after bytes.now before }
 {
     match before {
         Some(token) => !is_access_mark(bytes, token),

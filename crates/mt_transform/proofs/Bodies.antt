@@ -17,7 +17,7 @@ use Rattle.mt_tokens.specs.declared.source.SourceFault.TheVariants as fault
 use Rattle.mt_tokens.specs.declared.token.Token.{Token}
 use Rattle.mt_tokens.specs.declared.token.TokenFault.{TokenFault}
 use Rattle.mt_tokens.proofs.HasTokens.{tokens_of_cut}
-use Rattle.mt_tokens.proofs.Ascii.{word_ascii}
+use Rattle.mt_chars.proofs.Ascii.{word_ascii}
 use Rattle.mt_tokens.specs.Words.{bytes_of}
 use Rattle.mt_tokens.specs.declared.dep.Mark.{Mark}
 use Rattle.mt_deps.specs.Uses.{IsMarkText, IsUseCut}

@@ -3,8 +3,9 @@ ghost use Rattle.std.specs.Prelude.{◌≡◌, ◌++◌, ◌∷◌, [], IfOk, On
 ghost use Rattle.mt_tokens.specs.Transform.{body_of, comment_edit, comment_edits, edited, edits_before, edits_from, end_text, has_line_end, json_of, left_of, merged, start_text};
 ghost use Rattle.mt_transform.specs.Drafts.{Goes};
 
-use mt_deps::{DepList, Mark, Use, part};
-use mt_tokens::{Bytes, Token, TokenKind, begins_line_end_at, token_bytes};
+use mt_chars::{begins_line_end_at, part};
+use mt_deps::{DepList, Mark, Use};
+use mt_tokens::{Bytes, Token, TokenKind, token_bytes};
 use std::alloc::{AllocError, Global};
 
 /// The line that a body with exports begins with.

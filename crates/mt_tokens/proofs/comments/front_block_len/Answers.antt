@@ -1,7 +1,8 @@
 -- A byte where no `*/` begins is passed.
 use Rattle.std.proofs.Common.{arith, false, ◌≡◌, ◌∙◌, [], ◌∷◌, drop, eqb, sym, ap}
 use Rattle.std.specs.List.{starts_with}
-use Rattle.mt_tokens.proofs.Walks.{block_more, slice_from}
+use Rattle.mt_chars.proofs.Rests.{slice_from}
+use Rattle.mt_tokens.proofs.Walks.{block_more}
 use Rattle.mt_tokens.proofs.comments.front_block_len.Goals as goal
 
 pub loop-at-preserved : goal.loop-at-preserved

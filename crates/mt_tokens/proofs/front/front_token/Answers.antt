@@ -1,20 +1,12 @@
--- The first kind that fits.
-use Rattle.std.proofs.Common.{arith, ◌≡◌, ◌∙◌, true, false, sym}
-use Rattle.mt_tokens.specs.Comments.{begins_comment}
-use Rattle.mt_tokens.specs.Names.{name_len, run_len}
-use Rattle.mt_tokens.specs.declared.names.RunOf.TheVariants.{Blanks}
-use Rattle.mt_tokens.proofs.FirstKinds.{front_comment, front_other}
+use Rattle.std.proofs.Common.{◌∙◌, Ok, ap, sym}
+use Rattle.mt_tokens.specs.declared.token.TokenKind.TheVariants.{Ident}
+use Rattle.mt_tokens.proofs.FirstBytes.{front_letter, front_lone}
 use Rattle.mt_tokens.proofs.front.front_token.Goals as goal
 
-pub returns-then-begins_comment_at : goal.returns-then-begins_comment_at
-returns-then-begins_comment_at c =
-    let z : run_len Blanks c.args.rest.now ≡ 0 = let v = c.front_run_len-blanks.ensures.value in omega (arith, v) in
-    let b : begins_comment c.args.place c.args.rest.now ≡ true = sym c.begins_comment_at.ensures ∙ c.if-begins_comment_at.true in
-    c.comment.ensures ∙ sym (front_comment c.args.before c.args.place c.args.rest.now z b)
+pub returns-in-len1-up : goal.returns-in-len1-up
+returns-in-len1-up c = front_lone c.args.before c.args.place c.args.rest.now c.in-len1-up.len_at_least (sym c.is_lone_mark.ensures ∙ c.if-is_lone_mark.true)
 
-pub returns : goal.returns
-returns c =
-    let z : run_len Blanks c.args.rest.now ≡ 0 = let v = c.front_run_len-blanks.ensures.value in omega (arith, v) in
-    let b : begins_comment c.args.place c.args.rest.now ≡ false = sym c.begins_comment_at.ensures ∙ c.if-begins_comment_at.false in
-    let n : name_len c.args.rest.now ≡ 0 = let v = c.front_name_len-name.ensures.value in omega (arith, v) in
-    c.other_token.ensures ∙ sym (front_other c.args.before c.args.place c.args.rest.now z b n)
+pub returns-in-len1-up-2 : goal.returns-in-len1-up-2
+returns-in-len1-up-2 c =
+    ap (λ n. Ok (Ident, n)) c.front_name_len.ensures.value
+    ∙ front_letter c.args.before c.args.place c.args.rest.now c.in-len1-up.len_at_least (sym c.is_ascii_alphabetic.ensures.value ∙ c.if-is_ascii_alphabetic.true)

@@ -1,9 +1,10 @@
 -- A byte that ends no regular expression is passed.
 use Rattle.std.proofs.Common.{arith, ◌≡◌, ◌∙◌, ◌+◌, true, false, drop, refl, sym, ap}
 use Rattle.std.specs.Option.{option_map}
-use Rattle.mt_tokens.specs.Comments.{begins_line_end}
+use Rattle.mt_chars.specs.LineEnds.{begins_line_end}
+use Rattle.mt_chars.proofs.Rests.{slice_from}
 use Rattle.mt_tokens.specs.Regexes.{body_len}
-use Rattle.mt_tokens.proofs.Walks.{body_line, body_pass, body_past, body_stop, counted_end, counted_stop, slice_from}
+use Rattle.mt_tokens.proofs.Walks.{body_line, body_pass, body_past, body_stop, counted_end, counted_stop}
 use Rattle.mt_tokens.proofs.regexes.front_body_len.Goals as goal
 
 pub returns-then-begins_line_end_at : goal.returns-then-begins_line_end_at

@@ -1,8 +1,10 @@
 -- A byte that is no quote and no line end is passed, with what a `\` takes.
 use Rattle.std.proofs.Common.{arith, ◌∙◌, ◌+◌, ◌≡◌, refl, drop, eqb, true, false, get_or, sym}
 use Rattle.std.proofs.lemmas.Bool.Decides.{nat_tests}
-use Rattle.mt_tokens.specs.Strings.{escape_len}
-use Rattle.mt_tokens.proofs.Walks.{closing_pass, slice_from, escape_few}
+use Rattle.mt_chars.specs.LineEnds.{escape_len}
+use Rattle.mt_chars.proofs.Rests.{slice_from}
+use Rattle.mt_chars.proofs.Extents.{escape_few}
+use Rattle.mt_tokens.proofs.Walks.{closing_pass}
 use Rattle.mt_tokens.proofs.strings.front_closing_len.Goals as goal
 
 pub loop-at-preserved-then-b-eq92 : goal.loop-at-preserved-then-b-eq92

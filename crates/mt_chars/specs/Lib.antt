@@ -1,0 +1,5 @@
+pub mod Classes
+pub mod Escapes
+pub mod LineEnds
+pub mod Names
+pub mod Numbers

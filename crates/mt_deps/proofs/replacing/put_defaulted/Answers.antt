@@ -1,7 +1,0 @@
-use Rattle.std.specs.Prelude.{codes}
-use Rattle.mt_tokens.specs.Replacements.{map_entry}
-use Rattle.mt_deps.proofs.Puts.{put_three}
-use Rattle.mt_deps.proofs.replacing.put_defaulted.Goals as goal
-
-pub returns : goal.returns
-returns c = put_three c.args.out.now c.extend.new.self c.put_map_entry.new.out c.extend-2.new.self (codes "importDefault(") (map_entry c.args.number) (codes ")") c.in_ok-extend.ensures.ok c.in_ok-put_map_entry.ensures c.in_ok-extend-2.ensures.ok
