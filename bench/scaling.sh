@@ -1,9 +1,10 @@
 #!/usr/bin/env bash
 # Measures metro on made folders: 1,000, 10,000 and 50,000 small modules that require each other, 64 MB of source in
-# 100 files, 5,000 modules of 1 KiB beside `cat` of the same files, and 2,000 modules of 1,000 edges, also by `deps` and `check`; a check
-# of 16 MB with 4,096 names that lead nowhere; then replays over 1,000 small modules, of 2,000 edits that are built one by one and
-# of 65,536 changes; then single modules of many tokens. Run by hand, after `rt ci` has left the program, or with
-# METRO_PROGRAM naming another one.
+# 100 files, 5,000 modules of 1 KiB beside `cat` of the same files, and 2,000 modules of 1,000 edges, also by `deps` and `check`;
+# a check of 16 MB with 4,096 names that lead nowhere; names of packages, from 5,000 modules, of a package with a file of 16 MB,
+# and from 500 folders deep; then replays over 1,000 small modules, of 2,000 edits that are built one by one and of 65,536
+# changes; then single modules of many tokens. Run by hand, after `rt ci` has left the program, or with METRO_PROGRAM naming
+# another one.
 set -eu
 top="$(cd "$(dirname "$0")/.." && pwd)"
 program="${METRO_PROGRAM:-$top/crates/metro_program/out/metro_program}"
@@ -80,6 +81,68 @@ with open(os.path.join(folder, "index.js"), "w") as file:
 PY
 }
 
+# bare COUNT NAMES FOLDER: modules in folders six deep, each with so many names of packages that stand at the top.
+bare() {
+  python3 - "$1" "$2" "$3" <<'PY'
+import os, sys
+count, names, folder = int(sys.argv[1]), int(sys.argv[2]), sys.argv[3]
+for i in range(names):
+    package = os.path.join(folder, "node_modules", "p%d" % i)
+    os.makedirs(package)
+    with open(os.path.join(package, "package.json"), "w") as file:
+        file.write('{"main":"lib/main"}')
+    os.makedirs(os.path.join(package, "lib"))
+    with open(os.path.join(package, "lib", "main.js"), "w") as file:
+        file.write("1;\n")
+with open(os.path.join(folder, "index.js"), "w") as index:
+    for start in range(0, count, 1000):
+        index.write('require("./g%d.js");\n' % start)
+        with open(os.path.join(folder, "g%d.js" % start), "w") as group:
+            for i in range(start, min(count, start + 1000)):
+                place = "a/b/c/d/e%d/f%d" % (i // 100, i // 10 % 10)
+                os.makedirs(os.path.join(folder, place), exist_ok=True)
+                group.write('require("./%s/m%d.js");\n' % (place, i))
+                with open(os.path.join(folder, place, "m%d.js" % i), "w") as file:
+                    for j in range(names):
+                        file.write('require("p%d");\n' % j)
+                    file.write("// %s\n" % ("x" * 900))
+PY
+}
+
+# packaged COUNT SIZE FOLDER: modules in folders of their own that require one package, whose package file has so many bytes.
+packaged() {
+  python3 - "$1" "$2" "$3" <<'PY'
+import os, sys
+count, size, folder = int(sys.argv[1]), int(sys.argv[2]), sys.argv[3]
+os.makedirs(os.path.join(folder, "node_modules", "p"))
+with open(os.path.join(folder, "node_modules", "p", "package.json"), "w") as file:
+    file.write('{"main":"a.js","text":"%s"}' % ("x" * (size - 27)))
+with open(os.path.join(folder, "node_modules", "p", "a.js"), "w") as file:
+    file.write("1;\n")
+with open(os.path.join(folder, "index.js"), "w") as index:
+    for i in range(count):
+        os.makedirs(os.path.join(folder, "d%d" % i))
+        index.write('require("./d%d/m.js");\n' % i)
+        with open(os.path.join(folder, "d%d" % i, "m.js"), "w") as file:
+            file.write('require("p");\n')
+PY
+}
+
+# deep LEVELS NAMES FOLDER: one module so many folders deep, with so many names of packages that aren't there.
+deep() {
+  python3 - "$1" "$2" "$3" <<'PY'
+import os, sys
+levels, names, folder = int(sys.argv[1]), int(sys.argv[2]), sys.argv[3]
+place = "/".join(["a"] * levels)
+os.makedirs(os.path.join(folder, place))
+with open(os.path.join(folder, place, "m.js"), "w") as file:
+    for i in range(names):
+        file.write('require("gone%d");\n' % i)
+with open(os.path.join(folder, "index.js"), "w") as index:
+    index.write('require("./%s/m.js");\n' % place)
+PY
+}
+
 # timed FOLDER [COMMAND [SCRIPT [RUNS [ENTRY [STATUS]]]]]: seconds of the fastest run, and the kilobytes of the largest; each has
 # to end with STATUS. The peak is asked for as the program runs, since what the system tells of a process that ended counts what
 # it was started from, too.
@@ -112,6 +175,21 @@ PY
   )
 }
 
+# cat_of FOLDER: seconds of the fastest of three runs of `cat` over its modules.
+cat_of() {
+  (cd "$1" && python3 - <<'PY'
+import subprocess, time
+best = None
+for _ in range(3):
+    start = time.time()
+    subprocess.run("find . -name '*.js*' -print0 | xargs -0 cat", shell=True, stdout=subprocess.DEVNULL, check=True)
+    taken = time.time() - start
+    best = taken if best is None else min(best, taken)
+print("%.3f" % best)
+PY
+  )
+}
+
 first=""
 for count in 1000 10000 50000; do
   small "$count" "$work/small$count"
@@ -130,17 +208,7 @@ echo "64 MB in 100 files: $seconds s for $bytes bytes, peak $peak KB (wanted at 
 
 large 5000 1024 "$work/many"
 read -r seconds peak <<<"$(timed "$work/many")"
-cat_seconds="$(cd "$work/many" && python3 - <<'PY'
-import subprocess, time
-best = None
-for _ in range(3):
-    start = time.time()
-    subprocess.run("find . -name '*.js' -print0 | xargs -0 cat", shell=True, stdout=subprocess.DEVNULL, check=True)
-    taken = time.time() - start
-    best = taken if best is None else min(best, taken)
-print("%.3f" % best)
-PY
-)"
+cat_seconds="$(cat_of "$work/many")"
 ratio="$(python3 -c "print('%.2f' % ($seconds / $cat_seconds))")"
 echo "5000 modules of 1 KiB: $seconds s, cat of the same files $cat_seconds s, ratio $ratio (wanted: 5), peak $peak KB"
 
@@ -156,6 +224,20 @@ done
 named 4096 16777216 "$work/named"
 read -r seconds peak <<<"$(timed "$work/named" check /dev/null 3 index.js 1)"
 echo "check of 16 MB with 4096 names that lead nowhere: $seconds s (wanted: under 1), peak $peak KB"
+
+bare 5000 5 "$work/bare"
+read -r seconds peak <<<"$(timed "$work/bare")"
+cat_seconds="$(cat_of "$work/bare")"
+ratio="$(python3 -c "print('%.2f' % ($seconds / $cat_seconds))")"
+echo "5000 modules with 5 names of packages each, six folders deep: $seconds s, cat of the same files $cat_seconds s, ratio $ratio (wanted: 5), peak $peak KB"
+
+packaged 4096 16777216 "$work/packaged"
+read -r seconds peak <<<"$(timed "$work/packaged")"
+echo "a package file of 16 MB, required from 4096 folders: $seconds s (wanted: under 2), peak $peak KB"
+
+deep 500 4096 "$work/deep"
+read -r seconds peak <<<"$(timed "$work/deep" bundle /dev/null 2 index.js 1)"
+echo "4096 names of packages that are not there, 500 folders deep: $seconds s, peak $peak KB"
 
 # replayed NAME SCRIPT BUILDS: a replay over the 1,000 small modules, beside BUILDS bundles and a replay of `end` alone.
 replayed() {

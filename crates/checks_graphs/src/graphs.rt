@@ -15,7 +15,7 @@ fn push_line(lines: &mut String, path: &Path, links: &LinkList) -> Result<(), Al
     lines.push_str(path.as_str())?;
     for link in links.as_slice() {
         lines.push_str(" ")?;
-        match &link.target {
+        match &*link.target {
             Target::File(target) => lines.push_str(target.as_str())?,
             Target::None => lines.push_str("-")?,
             Target::BadPackage(_) => lines.push_str("!")?,

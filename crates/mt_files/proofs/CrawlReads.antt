@@ -28,7 +28,7 @@ use Rattle.mt_files.specs.Search.{files_met, is_met}
 use Rattle.mt_files.specs.Crawl.{IsStep, crawled, files_of, max_files, no_files, with_file, with_files, with_other, with_source}
 use Rattle.mt_files.specs.CrawlReads.{HasRead, IsReadOf, IsTaken}
 use Rattle.mt_files.specs.Listings.{IsDescribed, IsListed}
-use Rattle.mt_files.proofs.PathLists.{contains_has, has_contains, has_key, has_self, same_path}
+use Rattle.mt_files.proofs.PathLists.{contains_has, has_key, has_self, same_path}
 use Rattle.mt_files.proofs.Ascending.{find_made}
 use Rattle.mt_files.proofs.WithFiles.{fault_by, file_other, file_source, next_by, source_added, too_many}
 

@@ -17,7 +17,7 @@ use Rattle.mt_files.specs.declared.fault.CrawlFault.TheVariants.{FileTooLarge, T
 use Rattle.mt_files.specs.declared.crawler.PartialSnapshot.{PartialSnapshot}
 use Rattle.mt_files.specs.Snapshots.{Snapshot}
 use Rattle.mt_files.specs.Search.{is_met, files_met}
-use Rattle.mt_files.specs.Crawl.{bytes_at, crawled, entry_in, entry_of, files_of, max_files, max_folder_bytes, no_files, with_file, with_files, with_source}
+use Rattle.mt_files.specs.Crawl.{crawled, entry_in, entry_of, files_of, max_files, max_folder_bytes, no_files, with_file, with_files, with_source}
 use Rattle.mt_files.proofs.WithFiles.{fault_stays}
 
 abbrev ties : List ℕ → List ℕ → Bool

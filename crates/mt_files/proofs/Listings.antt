@@ -1,6 +1,5 @@
 -- The files that were found are those that the folder's lists name.
-use Rattle.std.proofs.Common.{inl, inr, ◌⊎◌, ◌≡◌, ◌∙◌, ℕ, true, List, [], ◌∷◌, ◌++◌, map, refl, sym, ap, subst}
-use Rattle.std.specs.Prelude.{◌↔◌}
+use Rattle.std.proofs.Common.{inl, inr, ◌⊎◌, ◌∙◌, ℕ, List, [], ◌∷◌, ◌++◌, map, sym, ap, subst}
 use Rattle.std.specs.List.{Contains, flat_map}
 use Rattle.std.specs.FinMap.{contains_key, empty, get-empty}
 use Rattle.std.specs.Ordering.{nat_cmp}

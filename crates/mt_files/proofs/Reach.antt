@@ -1,19 +1,19 @@
 -- The modules that are reached are the ends of walks, and no others.
-use Rattle.std.proofs.Common.{inl, inr, ◌⊎◌, ◌≡◌, ◌∙◌, ℕ, Bool, true, false, List, [], ◌∷◌, filter, map, length, Option, Some, None, refl, ap, sym, subst, if◌then◌else◌, is_some}
+use Rattle.std.proofs.Common.{inl, inr, ◌⊎◌, ◌≡◌, ◌∙◌, ℕ, true, List, [], ◌∷◌, map, length, Option, Some, None, refl, ap, sym, subst, if◌then◌else◌, is_some}
 use Rattle.std.specs.List.{Contains, filter_map, cons_option, list_any}
 use Rattle.std.specs.List.Sorted.{IsStrictlySortedBy}
 use Rattle.std.specs.Str.{bytes_eq}
 use Rattle.std.specs.FinMap.{keys, contains_key-keys, get}
 use Rattle.std.specs.Ordering.{nat_cmp}
 use Rattle.std.specs.Cmp.Lexicographic.{slice_cmp}
-use Rattle.std.specs.Option.{option_map, option_map_or}
+use Rattle.std.specs.Option.{option_map, option_map_or, unwrap_or}
 use Rattle.std.proofs.lemmas.Bool.{or_cases, cases_Bool, false≢true}
 use Rattle.std.proofs.lemmas.List.Kept.{IsStrictlySortedBy-filter}
 use Rattle.std.proofs.lemmas.Slice.Eq.{bytes_eq-Decides}
 use Rattle.mt_containers.specs.Walks.{IsClosed, is_end_within}
 use Rattle.mt_containers.specs.Walks as walks
 use Rattle.mt_containers.proofs.Members.{contains_filter, filter_contains}
-use Rattle.mt_containers.proofs.Walks.{among_reached, reached_among, reached_inside, reached_least, reached_start, reached_step, reached_wider}
+use Rattle.mt_containers.proofs.Walks.{among_reached, reached_among, reached_least, reached_start, reached_step, reached_wider}
 use Rattle.mt_containers.proofs.Tables.{keys_sorted}
 use Rattle.mt_tokens.specs.Deps.{Dependency}
 use Rattle.mt_tokens.specs.Transform.{dependencies_of, transformed}
@@ -22,7 +22,9 @@ use Rattle.mt_files.specs.Snapshots.{Snapshot, has_source, source_at, source_of}
 use Rattle.mt_package.specs.declared.options.Options.{Options}
 use Rattle.mt_files.specs.Asks.{Ask}
 use Rattle.mt_files.specs.declared.target.Target.TheVariants as target
-use Rattle.mt_files.specs.Resolve.{candidate, file_at, file_of, resolved}
+use Rattle.mt_path.specs.Names.{folder_of}
+use Rattle.mt_files.specs.Resolve.{Candidate, candidates, file_of, first_stop, is_bad, or_first, package_at, resolved, stop_at}
+use Rattle.mt_files.specs.declared.target.Target.{Target}
 use Rattle.mt_files.specs.Edges.{dependencies_at, edges, kind_of, target_of}
 use Rattle.mt_files.specs.Reach.{IsReached, reach, source_entries}
 use Rattle.mt_files.proofs.PathLists.{Has, contains_has, has_contains, has_key, same_path}
@@ -37,15 +39,40 @@ some_some (Some e) h = refl
 pub source_is_key : (files : Snapshot) (q : List ℕ) → has_source files q ≡ true → Has (keys files) q
 source_is_key files q h = sym (has_key q (keys files)) ∙ sym (contains_key-keys files q) ∙ some_some (get files q) h
 
-source_target : (files : Snapshot) (p q : List ℕ) → file_of (file_at files p) ≡ Some q → has_source files q ≡ true
-source_target files p q h = elim (cases_Bool (has_source files p)) [
-  | inl e ↦ let k : Some p ≡ Some q = ap (λ b. file_of (if b then target.File p else target.None)) (sym e) ∙ h in let f : p ≡ q = cc in subst (λ z. has_source files z ≡ true) f e
-  | inr e ↦ let k : None ≡ Some q = ap (λ b. file_of (if b then target.File p else target.None)) (sym e) ∙ h in cc
+-- what ends a search at a source is there
+stop_source : (files : Snapshot) (c : Candidate) (t : Target) (q : List ℕ) → stop_at files c ≡ Some t → file_of t ≡ Some q → has_source files q ≡ true
+stop_source files (Candidate.Source p) t q s h = elim (cases_Bool (has_source files p)) [
+  | inl e ↦
+      let k : Some (target.File p) ≡ Some t = ap (λ b. if b then Some (target.File p) else None) (sym e) ∙ s in
+      let f : target.File p ≡ t = cc in
+      let g : Some p ≡ Some q = ap file_of f ∙ h in
+      let i : p ≡ q = cc in
+      subst (λ z. has_source files z ≡ true) i e
+  | inr e ↦ let k : None ≡ Some t = ap (λ b. if b then Some (target.File p) else None) (sym e) ∙ s in absurd (cc)
+]
+stop_source files (Candidate.Package p) t q s h = elim (cases_Bool (is_bad (package_at files p))) [
+  | inl e ↦
+      let k : Some (target.BadPackage p) ≡ Some t = ap (λ b. if b then Some (target.BadPackage p) else None) (sym e) ∙ s in
+      let f : target.BadPackage p ≡ t = cc in
+      let g : None ≡ Some q = ap file_of f ∙ h in
+      absurd (cc)
+  | inr e ↦ let k : None ≡ Some t = ap (λ b. if b then Some (target.BadPackage p) else None) (sym e) ∙ s in absurd (cc)
 ]
 
-resolved_at : (files : Snapshot) (c : Option (List ℕ)) (q : List ℕ) → file_of (option_map_or (file_at files) c target.None) ≡ Some q → has_source files q ≡ true
-resolved_at files None q h = cc
-resolved_at files (Some c) q h = source_target files c q h
+either_first : (o more : Option Target) (t : Target) → or_first o more ≡ Some t → (o ≡ Some t) ⊎ (more ≡ Some t)
+either_first None more t h = inr h
+either_first (Some x) more t h = inl h
+
+first_source : (files : Snapshot) (cs : List Candidate) (t : Target) (q : List ℕ) → first_stop files cs ≡ Some t → file_of t ≡ Some q → has_source files q ≡ true
+first_source files [] t q s h = absurd (cc)
+first_source files (c ∷ cs) t q s h = elim (either_first (stop_at files c) (first_stop files cs) t s) [
+  | inl e ↦ stop_source files c t q e h
+  | inr e ↦ first_source files cs t q e h
+]
+
+target_source : (files : Snapshot) (cs : List Candidate) (o : Option Target) (q : List ℕ) → first_stop files cs ≡ o → file_of (unwrap_or o target.None) ≡ Some q → has_source files q ≡ true
+target_source files cs None q e h = absurd (cc)
+target_source files cs (Some t) q e h = first_source files cs t q e h
 
 pub has_cons : (o : Option (List ℕ)) (ps : List (List ℕ)) (q : List ℕ) → Has (cons_option o ps) q → (o ≡ Some q) ⊎ Has ps q
 has_cons None ps q h = inr h
@@ -60,7 +87,7 @@ unfolding resolved
 edge_in options files p [] q h = absurd (false≢true h)
 edge_in options files p (d ∷ ds) q h =
     elim (has_cons (file_of (target_of options files p d)) (filter_map file_of (map (target_of options files p) ds)) q h) [
-      | inl e ↦ resolved_at files (candidate p d.name) q e
+      | inl e ↦ target_source files (candidates options files (folder_of p) d.name) _ q refl e
       | inr r ↦ edge_in options files p ds q r
     ]
 

@@ -1,15 +1,14 @@
 -- The files that a crawl meets are found folder by folder, until none waits.
-use Rattle.std.proofs.Common.{◌⊎◌, inl, inr, ◌≡◌, ◌∙◌, ◌&&◌, ◌||◌, ◌==◌, nat_lt, arith, suc, zero, ℕ, Bool, true, false, cond, not, List, [], ◌∷◌, ◌++◌, length, length-append, drop, map, filter, Option, Some, None, refl, sym, ap, subst, if◌then◌else◌, is_some}
+use Rattle.std.proofs.Common.{◌⊎◌, inl, inr, ◌≡◌, ◌∙◌, ◌&&◌, ◌==◌, nat_lt, arith, ℕ, Bool, true, false, cond, not, List, [], ◌∷◌, ◌++◌, length, drop, map, filter, Option, Some, None, refl, sym, ap, subst, if◌then◌else◌, is_some}
 use Rattle.std.specs.Prelude.{T, Result, Ok, Err}
 use Rattle.std.specs.Result.{is_ok}
 use Rattle.mt_path.specs.declared.path.PathFault.{PathFault}
 use Rattle.mt_path.specs.declared.path.PathFault.TheVariants.{BadSegment, NotRooted, TooLong}
-use Rattle.std.specs.Bool.{nat_eq}
 use Rattle.std.specs.Ordering.{nat_cmp, eq_by_cmp, is_lt}
 use Rattle.std.specs.Cmp.Lexicographic.{slice_cmp, nat_list_cmp_total}
 use Rattle.std.specs.FinMap.{contains_key, contains_key-keys, empty, entries, entries_sorted, get, get-empty, get-entries, keys, slice_cmp-IsAntisymmetric, nat_cmp-IsAntisymmetric}
 use Rattle.std.specs.FinMap.Entries.{below_all, find, find-where_key, is_sorted, is_sorted-where_key, same_entries, where_key}
-use Rattle.std.specs.List.{Any, Contains, list_any, starts_with}
+use Rattle.std.specs.List.{Any, Contains, list_any}
 use Rattle.std.specs.Option.{option_map, option_map_or}
 use Rattle.std.proofs.lemmas.Bool.{and_parts}
 use Rattle.std.proofs.lemmas.List.Elements.{Contains-push_cases, Contains-append_cases, Contains-append_left, Contains-append_right, Contains-push}
@@ -19,7 +18,6 @@ use Rattle.mt_path.specs.Segments.{parts_of, segments_of}
 use Rattle.mt_path.specs.Names.{is_root, without_last}
 use Rattle.mt_path.specs.Children.{child_of, prefix_of}
 use Rattle.mt_io.specs.declared.folder.Named.{Named}
-use Rattle.mt_io.specs.declared.folder.NamedKind.{NamedKind}
 use Rattle.mt_io.specs.declared.folder.NamedKind.TheVariants.{File, Folder, Other}
 use Rattle.mt_io.specs.Files.{Files, IsChildrenOf, child_toward, first_of, is_below, is_folder_in, rest_of}
 use Rattle.mt_io.proofs.Children.{child_met, child_told, folder_there}

@@ -8,7 +8,7 @@ use Rattle.mt_path.specs.Names.{is_source}
 use Rattle.mt_tokens.specs.Sources.{max_source_bytes}
 use Rattle.mt_io.specs.Files.{Files}
 use Rattle.mt_files.specs.declared.file_map.Entry.{Entry}
-use Rattle.mt_files.specs.declared.file_map.Entry.TheVariants.{Source, Other}
+use Rattle.mt_files.specs.declared.file_map.Entry.TheVariants.{Source}
 use Rattle.mt_files.specs.declared.fault.CrawlFault.{CrawlFault}
 use Rattle.mt_files.specs.declared.fault.CrawlFault.TheVariants.{FileTooLarge, TooManyFiles, TooManyBytes}
 use Rattle.mt_files.specs.declared.crawler.PartialSnapshot.{PartialSnapshot}

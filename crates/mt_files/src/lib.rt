@@ -25,4 +25,4 @@ pub use file_map::{Entry, FileMap};
 pub use journal::{Journal, JournalFault, MAX_CHANGES, MAX_JOURNAL_BYTES};
 pub use kind::path_kind;
 pub use law::{law_of_crawls, law_of_limits, law_of_reach, law_of_rescans};
-pub use target::{Resolution, Target};
+pub use target::{Link, Target};

@@ -1,4 +1,5 @@
 //! Where names lead.
+use mt_containers::Shared;
 use mt_path::Path;
 
 /// Where a name leads.
@@ -12,9 +13,9 @@ pub enum Target {
     BadPackage(Path),
 }
 
-/// Where a name leads from a module.
-#[derive(Debug, Drop)]
-pub struct Resolution {
-    /// Where it leads.
-    pub target: Target,
+/// A name of a module, by where it leads.
+#[derive(Drop)]
+pub struct Link {
+    /// Where it leads. Names that lead there from the same folder share it.
+    pub target: Shared<Target>,
 }

@@ -19,7 +19,7 @@ use Rattle.mt_files.specs.Snapshots.{Snapshot, has_source, source_at}
 use Rattle.mt_files.specs.PathSets.{with_paths}
 use Rattle.mt_files.specs.Resolve.{file_of}
 use Rattle.mt_files.specs.Fresh.{ascending}
-use Rattle.mt_files.specs.declared.target.Resolution.{Resolution}
+use Rattle.mt_files.specs.declared.target.Link.{Link}
 use Rattle.mt_files.specs.declared.target.Target.{Target}
 use Rattle.mt_files.specs.declared.target.Target.TheVariants as target
 use Rattle.mt_files.proofs.Ascending.{has_ascending}
@@ -153,7 +153,7 @@ module _ (origin : List ℕ) (known : Known) (visits : VisitMap) where
 
   -- ---- all links
 
-  all_more : (w : Known) (links : List Resolution) (q : List ℕ) → IsIn w q → IsIn (waiting_with_all origin known visits w links) q
+  all_more : (w : Known) (links : List Link) (q : List ℕ) → IsIn w q → IsIn (waiting_with_all origin known visits w links) q
   all_more w [] q h = h
   all_more w (link ∷ links) q h = all_more (waiting_with origin known visits w link.target) links q (with_more w link.target q h)
 
@@ -169,7 +169,7 @@ module _ (origin : List ℕ) (known : Known) (visits : VisitMap) where
   file_either None qs q h = inr h
   file_either (Some p) qs q h = elim (contains_cases p q qs h) [ inl is ↦ inl (ap Some is) | inr more ↦ inr more ]
 
-  all_before : (w : Known) (links : List Resolution) (q : List ℕ) → IsIn (waiting_with_all origin known visits w links) q → IsIn w q ⊎ (Contains (files_of links) q × (contains_key known q ≡ false))
+  all_before : (w : Known) (links : List Link) (q : List ℕ) → IsIn (waiting_with_all origin known visits w links) q → IsIn w q ⊎ (Contains (files_of links) q × (contains_key known q ≡ false))
   all_before w [] q h = inl h
   all_before w (link ∷ links) q h = elim (all_before (waiting_with origin known visits w link.target) links q h) [
     | inr more ↦ inr (file_rest (file_of link.target) (files_of links) q more.0, more.1)
@@ -179,11 +179,11 @@ module _ (origin : List ℕ) (known : Known) (visits : VisitMap) where
     ]
   ]
 
-  done_all : (w : Known) (links : List Resolution) (q : List ℕ) → IsDone w q → IsDone (waiting_with_all origin known visits w links) q
+  done_all : (w : Known) (links : List Link) (q : List ℕ) → IsDone w q → IsDone (waiting_with_all origin known visits w links) q
   done_all w links q (inl h) = inl (all_more w links q h)
   done_all w links q (inr h) = inr h
 
-  all_files : (w : Known) (links : List Resolution) (q : List ℕ) → Contains (files_of links) q → IsDone (waiting_with_all origin known visits w links) q
+  all_files : (w : Known) (links : List Link) (q : List ℕ) → Contains (files_of links) q → IsDone (waiting_with_all origin known visits w links) q
   all_files w [] q h = absurd (contains_none q h)
   all_files w (link ∷ links) q h = elim (file_either (file_of link.target) (files_of links) q h) [
     | inl here ↦ done_all (waiting_with origin known visits w link.target) links q (with_file w link.target q here)
@@ -232,7 +232,7 @@ module _ (options : Options) (files : Snapshot) (seeds : List (List ℕ)) (known
       (visits : VisitMap) (waiting : Known) (p source : List ℕ) (visit : Visit) → IsTraversed visits waiting → get waiting p ≡ Some tt → source_at files p ≡ Some source → visit ≡ visit_of options files p source
       → IsTraversed (insert visits p visit) (waiting_with_all p known visits (remove waiting p) visit.links)
   traversed_step visits waiting p source visit h here there is =
-      let links : List Resolution = visit.links in
+      let links : List Link = visit.links in
       let after : Known = waiting_with_all p known visits (remove waiting p) links in
       let rows : VisitMap = insert visits p visit in
       let step = unknown_edges options files known in

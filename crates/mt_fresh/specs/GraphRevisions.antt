@@ -3,7 +3,7 @@ use Rattle.std.specs.Prelude.{ℕ, List, map, Option}
 use Rattle.std.specs.List.{filter_map}
 use Rattle.std.specs.Option.{option_map}
 use Rattle.std.specs.FinMap.{entries, from_entries}
-use Rattle.mt_files.specs.declared.target.Resolution.{Resolution}
+use Rattle.mt_files.specs.declared.target.Link.{Link}
 use Rattle.mt_graph.specs.Graphs.{GraphMap}
 use Rattle.mt_graph.specs.declared.graph.Node.{Node}
 use Rattle.mt_write.specs.declared.slot.Slot.{Slot}
@@ -13,7 +13,7 @@ use Rattle.mt_revision.specs.Contents.{slot_of}
 use Rattle.mt_revision.specs.declared.modules.Module.{Module}
 
 -- the slot of a name of which this is the link
-abbrev pub slot_of_link : List (List ℕ) → Resolution → Slot
+abbrev pub slot_of_link : List (List ℕ) → Link → Slot
 slot_of_link numbering link = slot_of numbering link.target
 
 -- the module of a node: it has a slot for each link

@@ -7,7 +7,7 @@ use Rattle.std.specs.FinMap.{FinMap, contains_key, from_entries, insert}
 use Rattle.std.specs.Str.{bytes_eq}
 use Rattle.mt_package.specs.declared.options.Options.{Options}
 use Rattle.mt_files.specs.Snapshots.{Snapshot, source_at}
-use Rattle.mt_files.specs.declared.target.Resolution.{Resolution}
+use Rattle.mt_files.specs.declared.target.Link.{Link}
 use Rattle.mt_files.specs.declared.target.Target.{Target}
 use Rattle.mt_files.specs.declared.target.Target.TheVariants as target
 use Rattle.mt_graph.specs.Founds.{links_of, made_of}
@@ -46,5 +46,5 @@ waiting_with origin known visits waiting target.None = waiting
 waiting_with origin known visits waiting (target.BadPackage path) = waiting
 
 -- the same with each of its links
-abbrev pub waiting_with_all : List ℕ → Known → VisitMap → Known → List Resolution → Known
+abbrev pub waiting_with_all : List ℕ → Known → VisitMap → Known → List Link → Known
 waiting_with_all origin known visits waiting links = fold (λ w link. waiting_with origin known visits w link.target) waiting links

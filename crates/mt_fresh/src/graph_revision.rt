@@ -13,7 +13,7 @@ ghost use Rattle.mt_revision.specs.Contents.{HasContent, numbers_of, revision_af
 ghost use Rattle.mt_fresh.specs.GraphRevisions.{module_of_node, modules_of_graph, slot_of_link};
 
 use mt_containers::{List, Shared};
-use mt_files::{Resolution, Target};
+use mt_files::{Link, Target};
 use mt_graph::{Graph, Node};
 use mt_package::Options;
 use mt_path::Path;
@@ -54,11 +54,7 @@ fn slot_of(numbering: &Numbering, target: &Target) -> Slot
 }
 
 /// The slots of links.
-fn slots_of(
-    alloc: Global,
-    numbering: &Numbering,
-    links: &[Resolution],
-) -> Result<List<Slot>, AllocError>
+fn slots_of(alloc: Global, numbering: &Numbering, links: &[Link]) -> Result<List<Slot>, AllocError>
     ensures slots { IfOk result (λ slots. slots ≡ map (slot_of_link numbering.now) links.now) }
 {
     let mut slots = List::new(alloc);

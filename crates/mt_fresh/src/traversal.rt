@@ -7,13 +7,14 @@ ghost use Rattle.mt_files.specs.Snapshots.{has_source};
 ghost use Rattle.mt_files.specs.PathSets.{with_paths};
 ghost use Rattle.mt_graph.specs.Founds.{link_of, links_of, made_of};
 ghost use Rattle.mt_graph.specs.Explored.{IsExploration, explored};
+ghost use Rattle.mt_resolve.specs.Resolvers.{IsSound, files_in, options_in};
 ghost use Rattle.mt_fresh.specs.Visits.{found_of, is_new, visit_of, visits_of, waiting_with, waiting_with_all};
 
-use mt_files::{FileMap, Resolution, Target, path_kind};
+use mt_files::{FileMap, Link, Target, path_kind};
 use mt_graph::{Explorer, Found, FoundList, LinkList};
 use mt_package::Options;
 use mt_path::{Path, PathMap, PathSet};
-use mt_resolve::resolve;
+use mt_resolve::Resolver;
 use mt_tokens::{Bytes, Shared, SourceFault};
 use mt_transform::{NameList, Output, transform};
 use std::alloc::{AllocError, Global};
@@ -48,16 +49,20 @@ fn make(
 /// Where the names of the module at a path lead.
 fn resolve_names(
     alloc: Global,
-    files: &FileMap,
-    options: &Options,
+    resolver: &mut Resolver,
     path: &Path,
     names: &NameList,
 ) -> Result<LinkList, AllocError>
-    ensures exact { IfOk result (λ links. links ≡ mapped (link_of options.now files.now path.now) names.now) }
+    requires sound { IsSound resolver.old }
+    ensures exact { IfOk result (λ links. links ≡ mapped (link_of (options_in resolver.old) (files_in resolver.old) path.now) names.now) }
+    ensures files { files_in resolver.new ≡ files_in resolver.old }
+    ensures options { options_in resolver.new ≡ options_in resolver.old }
+    ensures sound { IsSound resolver.new }
 {
     let mut links = LinkList::new(alloc);
     for name in names.as_slice() {
-        links.push(resolve(alloc, files, options, path, name.text.as_str(), name.kind)?)?;
+        let target = resolver.target(alloc, path, &name.text, name.kind)?;
+        links.push(Link { target })?;
     }
     Ok(links)
 }
@@ -65,17 +70,22 @@ fn resolve_names(
 /// Visits the module at a path that has this source.
 fn visit_source(
     alloc: Global,
-    files: &FileMap,
     options: &Options,
+    resolver: &mut Resolver,
     path: &Path,
     source: &Shared<Bytes>,
 ) -> Result<Visit, AllocError>
     requires small { length source.now ≤ max_source_bytes }
-    ensures exact { IfOk result (λ visit. visit ≡ visit_of options.now files.now path.now source.now) }
+    requires sound { IsSound resolver.old }
+    requires options { options_in resolver.old ≡ options.now }
+    ensures exact { IfOk result (λ visit. visit ≡ visit_of options.now (files_in resolver.old) path.now source.now) }
+    ensures files { files_in resolver.new ≡ files_in resolver.old }
+    ensures options { options_in resolver.new ≡ options_in resolver.old }
+    ensures sound { IsSound resolver.new }
 {
     match make(alloc, options, path, source)? {
         Ok(output) => {
-            let links = resolve_names(alloc, files, options, path, output.names())?;
+            let links = resolve_names(alloc, resolver, path, output.names())?;
             Ok(Visit {
                 made: Ok(output),
                 links,
@@ -103,7 +113,7 @@ fn is_new_target(
 
 /// Lets the source to which a link of the module `origin` leads wait, where it is new.
 fn add_target(
-    link: &Resolution,
+    link: &Link,
     origin: &Path,
     known: &PathSet,
     visits: &VisitMap,
@@ -111,7 +121,7 @@ fn add_target(
 ) -> Result<(), AllocError>
     ensures ok { OnOk result (waiting.new ≡ waiting_with origin.now known.now visits.now waiting.old link.now.target) }
 {
-    let Target::File(path) = &link.target else {
+    let Target::File(path) = &*link.target else {
         return Ok(());
     };
     if !is_new_target(path, origin, known, visits, waiting) {
@@ -159,6 +169,7 @@ fn visit_all(
     ensures exact { IfOk result (λ visits. visits ≡ visits_of options.now files.now seeds.now known.now) }
 {
     let mut visits = VisitMap::new(alloc);
+    let mut resolver = Resolver::new(alloc, files, options)?;
     let mut waiting = set_of(alloc, seeds)?;
     for _turn in 0..u64::MAX {
         let Some((path, ())) = waiting.pop_first() else {
@@ -167,7 +178,7 @@ fn visit_all(
         let Some(source) = files.source(&path) else {
             continue;
         };
-        let visit = visit_source(alloc, files, options, &path, source)?;
+        let visit = visit_source(alloc, options, &mut resolver, &path, source)?;
         add_targets(&visit.links, &path, known, &visits, &mut waiting)?;
         visits.insert(path, visit)?;
     }

@@ -28,7 +28,7 @@ use Rattle.mt_files.specs.declared.build_fault.BuildFault.TheVariants.{EntryMiss
 use Rattle.mt_files.proofs.PathLists.{has_key, same_path}
 use Rattle.mt_files.proofs.Reach.{reach_ascending}
 use Rattle.mt_files.proofs.Ascending.{find_made, has_ascending, same_paths}
-use Rattle.mt_files.specs.declared.target.Resolution.{Resolution}
+use Rattle.mt_files.specs.declared.target.Link.{Link}
 use Rattle.mt_transform.specs.Outputs.{output_made}
 use Rattle.mt_transform.specs.declared.output.Output.{Output}
 use Rattle.mt_graph.specs.Founds.{files_of, found_at, found_in, links_of}
@@ -45,7 +45,7 @@ rest_none [] ys e = e
 rest_none (x ∷ xs) ys e = cc
 
 -- an output with its links
-abbrev with_links : List Resolution → Output → Node
+abbrev with_links : List Link → Output → Node
 with_links links output = record { output = output; links = links }
 
 module _ (options : Options) (files : Snapshot) where

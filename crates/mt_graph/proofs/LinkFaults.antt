@@ -8,7 +8,7 @@ use Rattle.std.proofs.lemmas.List.FromFn.{length-enumerate_from}
 use Rattle.mt_tokens.specs.Deps.{Dependency}
 use Rattle.mt_files.specs.Edges.{fault_of}
 use Rattle.mt_files.specs.declared.build_fault.BuildFault.{BuildFault}
-use Rattle.mt_files.specs.declared.target.Resolution.{Resolution}
+use Rattle.mt_files.specs.declared.target.Link.{Link}
 use Rattle.mt_files.specs.declared.target.Target.{Target}
 use Rattle.mt_files.specs.declared.target.Target.TheVariants as target
 use Rattle.mt_transform.specs.Outputs.{places_of}
@@ -45,27 +45,27 @@ both n (suc i) (a ∷ xs) (b ∷ ys) x y h k =
 -- ---- one name
 
 -- the fault of the name with a number
-abbrev pub fault_at : List ℕ → Output → List Resolution → ℕ → List BuildFault
+abbrev pub fault_at : List ℕ → Output → List Link → ℕ → List BuildFault
 fault_at path output links i = option_map_or (link_fault path output) (slice_get (enumerate_from 0 (zip output.names links)) i) []
 
 pub fault_here :
-    (path : List ℕ) (output : Output) (links : List Resolution) (i : ℕ) (name : Name) (link : Resolution) → slice_get output.names i ≡ Some name → slice_get links i ≡ Some link
+    (path : List ℕ) (output : Output) (links : List Link) (i : ℕ) (name : Name) (link : Link) → slice_get output.names i ≡ Some name → slice_get links i ≡ Some link
     → fault_at path output links i ≡ fault_of path (placed output i name) link.target
 fault_here path output links i name link h k =
     let g : 0 + i ≡ i = omega arith in
     ap (λ o. option_map_or (link_fault path output) o []) (both 0 i output.names links name link h k)
     ∙ ap (λ n. fault_of path (placed output n name) link.target) g
 
-pub no_name : (path : List ℕ) (output : Output) (links : List Resolution) (i : ℕ) (faults : List BuildFault) → slice_get output.names i ≡ None → faults ≡ faults ++ fault_at path output links i
+pub no_name : (path : List ℕ) (output : Output) (links : List Link) (i : ℕ) (faults : List BuildFault) → slice_get output.names i ≡ None → faults ≡ faults ++ fault_at path output links i
 no_name path output links i faults h = sym (append-nil faults) ∙ ap (λ o. faults ++ option_map_or (link_fault path output) o []) (sym (no_first 0 i output.names links h))
 
-pub no_link : (path : List ℕ) (output : Output) (links : List Resolution) (i : ℕ) (faults : List BuildFault) → slice_get links i ≡ None → faults ≡ faults ++ fault_at path output links i
+pub no_link : (path : List ℕ) (output : Output) (links : List Link) (i : ℕ) (faults : List BuildFault) → slice_get links i ≡ None → faults ≡ faults ++ fault_at path output links i
 no_link path output links i faults h = sym (append-nil faults) ∙ ap (λ o. faults ++ option_map_or (link_fault path output) o []) (sym (no_second 0 i output.names links h))
 
 -- ---- all names
 
 -- where each link leads to a source there is no fault
-no_fault_by : (path : List ℕ) (output : Output) (n : ℕ) (names : List Name) (links : List Resolution) → list_all is_file links ≡ true → flat_map (link_fault path output) (enumerate_from n (zip names links)) ≡ []
+no_fault_by : (path : List ℕ) (output : Output) (n : ℕ) (names : List Name) (links : List Link) → list_all is_file links ≡ true → flat_map (link_fault path output) (enumerate_from n (zip names links)) ≡ []
 no_fault_by path output n [] links h = refl
 no_fault_by path output n (name ∷ names) [] h = refl
 no_fault_by path output n (name ∷ names) (link ∷ links) h =
@@ -77,7 +77,7 @@ no_fault_by path output n (name ∷ names) (link ∷ links) h =
     none d target.None e = cc
     none d (target.BadPackage p) e = cc
 
-pub no_fault : (path : List ℕ) (output : Output) (links : List Resolution) → list_all is_file links ≡ true → [] ≡ link_faults path output links
+pub no_fault : (path : List ℕ) (output : Output) (links : List Link) → list_all is_file links ≡ true → [] ≡ link_faults path output links
 no_fault path output links h = sym (no_fault_by path output 0 output.names links h)
 
 -- ---- what is left from a number on
@@ -93,11 +93,11 @@ at f (x ∷ xs) (suc i) =
     at f xs i ∙ ap (λ n. option_map_or f (slice_get xs i) [] ++ flat_map f (drop n (x ∷ xs))) (sym e)
 
 -- the faults from a number on
-abbrev pub faults_from : List ℕ → Output → List Resolution → ℕ → List BuildFault
+abbrev pub faults_from : List ℕ → Output → List Link → ℕ → List BuildFault
 faults_from path output links i = flat_map (link_fault path output) (drop i (enumerate_from 0 (zip output.names links)))
 
 pub follow_fault :
-    (path : List ℕ) (output : Output) (links : List Resolution) (i : ℕ) (faults more all : List BuildFault) → more ≡ faults ++ fault_at path output links i → faults ++ faults_from path output links i ≡ all
+    (path : List ℕ) (output : Output) (links : List Link) (i : ℕ) (faults more all : List BuildFault) → more ≡ faults ++ fault_at path output links i → faults ++ faults_from path output links i ≡ all
     → more ++ faults_from path output links (i + 1) ≡ all
 follow_fault path output links i faults more all h k =
     let pairs = enumerate_from 0 (zip output.names links) in
@@ -112,7 +112,7 @@ zip_short (x ∷ xs) [] = omega arith
 zip_short (x ∷ xs) (y ∷ ys) = let h = zip_short xs ys in omega arith
 
 pub followed_faults :
-    (path : List ℕ) (output : Output) (links : List Resolution) (i : ℕ) (faults : List BuildFault) → length links ≤ i → faults ++ faults_from path output links i ≡ link_faults path output links
+    (path : List ℕ) (output : Output) (links : List Link) (i : ℕ) (faults : List BuildFault) → length links ≤ i → faults ++ faults_from path output links i ≡ link_faults path output links
     → faults ≡ link_faults path output links
 followed_faults path output links i faults n h =
     let pairs = enumerate_from 0 (zip output.names links) in
@@ -121,7 +121,7 @@ followed_faults path output links i faults n h =
 
 -- what was found for the name with a number is its fault
 pub fault_found :
-    (path : List ℕ) (output : Output) (links : List Resolution) (i place : ℕ) (name : Name) (link : Resolution) (found : List BuildFault)
+    (path : List ℕ) (output : Output) (links : List Link) (i place : ℕ) (name : Name) (link : Link) (found : List BuildFault)
     → slice_get output.names i ≡ Some name → slice_get links i ≡ Some link → place ≡ slice_index (places_of output) i → found ≡ fault_of path (record { name = name.text; kind = name.kind; place = place }) link.target
     → found ≡ fault_at path output links i
 fault_found path output links i place name link found h k p e =

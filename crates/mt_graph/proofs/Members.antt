@@ -18,7 +18,7 @@ use Rattle.mt_tokens.specs.declared.source.SourceFault.{SourceFault}
 use Rattle.mt_files.specs.Fresh.{ascending, decided}
 use Rattle.mt_files.specs.declared.build_fault.BuildFault.{BuildFault}
 use Rattle.mt_files.specs.declared.build_fault.BuildFault.TheVariants.{EntryMissing, Source}
-use Rattle.mt_files.specs.declared.target.Resolution.{Resolution}
+use Rattle.mt_files.specs.declared.target.Link.{Link}
 use Rattle.mt_transform.specs.declared.output.Output.{Output}
 use Rattle.mt_files.proofs.PathLists.{has_self, same_path}
 use Rattle.mt_files.proofs.Ascending.{find_made, has_ascending, same_paths}

@@ -8,18 +8,18 @@ use Rattle.mt_package.specs.declared.options.Options.{Options}
 use Rattle.mt_files.specs.Snapshots.{Snapshot, source_at}
 use Rattle.mt_files.specs.Resolve.{file_of, resolved}
 use Rattle.mt_files.specs.Edges.{kind_of}
-use Rattle.mt_files.specs.declared.target.Resolution.{Resolution}
+use Rattle.mt_files.specs.declared.target.Link.{Link}
 use Rattle.mt_transform.specs.Outputs.{output_of}
 use Rattle.mt_transform.specs.declared.output.Name.{Name}
 use Rattle.mt_transform.specs.declared.output.Output.{Output}
 use Rattle.mt_graph.specs.declared.found.Found.{Found}
 
 -- where a name of a module leads
-abbrev pub link_of : Options → Snapshot → List ℕ → Name → Resolution
+abbrev pub link_of : Options → Snapshot → List ℕ → Name → Link
 link_of options files path name = record { target = resolved options files path name.text name.kind }
 
 -- where the names of what a source became lead, in their order: nowhere after a refusal
-abbrev pub links_of : Options → Snapshot → List ℕ → Result Output SourceFault → List Resolution
+abbrev pub links_of : Options → Snapshot → List ℕ → Result Output SourceFault → List Link
 links_of options files path (Ok output) = map (link_of options files path) output.names
 links_of options files path (Err fault) = []
 
@@ -44,5 +44,5 @@ abbrev pub found_with : List Found → List ℕ → Option Found
 found_with founds path = find (λ found. bytes_eq path found.path) founds
 
 -- the source files to which links lead, in their order
-abbrev pub files_of : List Resolution → List (List ℕ)
+abbrev pub files_of : List Link → List (List ℕ)
 files_of links = filter_map (λ link. file_of link.target) links

@@ -9,7 +9,7 @@ use Rattle.mt_files.specs.Edges.{fault_of}
 use Rattle.mt_files.specs.Fresh.{ascending, decided, max_modules}
 use Rattle.mt_files.specs.declared.build_fault.BuildFault.{BuildFault}
 use Rattle.mt_files.specs.declared.build_fault.BuildFault.TheVariants.{EntryMissing, Source, TooManyModules}
-use Rattle.mt_files.specs.declared.target.Resolution.{Resolution}
+use Rattle.mt_files.specs.declared.target.Link.{Link}
 use Rattle.mt_transform.specs.Outputs.{places_of}
 use Rattle.mt_transform.specs.declared.output.Name.{Name}
 use Rattle.mt_transform.specs.declared.output.Output.{Output}
@@ -22,15 +22,15 @@ abbrev pub placed : Output → ℕ → Name → Dependency
 placed output i name = record { name = name.text; kind = name.kind; place = slice_index (places_of output) i }
 
 -- the fault of a name with this number that has this link: none where it leads to a source
-abbrev pub link_fault : List ℕ → Output → ℕ × (Name × Resolution) → List BuildFault
+abbrev pub link_fault : List ℕ → Output → ℕ × (Name × Link) → List BuildFault
 link_fault path output (i, (name, link)) = fault_of path (placed output i name) link.target
 
 -- the faults of an output's names, in their order
-abbrev pub link_faults : List ℕ → Output → List Resolution → List BuildFault
+abbrev pub link_faults : List ℕ → Output → List Link → List BuildFault
 link_faults path output links = flat_map (link_fault path output) (enumerate_from 0 (zip output.names links))
 
 -- the faults of a module: its source's refusal, or those of its names
-abbrev pub module_faults : List ℕ → List Resolution → Result Output SourceFault → List BuildFault
+abbrev pub module_faults : List ℕ → List Link → Result Output SourceFault → List BuildFault
 module_faults path links (Err fault) = Source path fault ∷ []
 module_faults path links (Ok output) = link_faults path output links
 

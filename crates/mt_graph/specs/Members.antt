@@ -8,7 +8,7 @@ use Rattle.std.specs.FinMap.{FinMap, from_entries, insert}
 use Rattle.mt_files.specs.Fresh.{ascending, decided}
 use Rattle.mt_files.specs.declared.build_fault.BuildFault.{BuildFault}
 use Rattle.mt_files.specs.declared.build_fault.BuildFault.TheVariants.{EntryMissing, Source}
-use Rattle.mt_files.specs.declared.target.Resolution.{Resolution}
+use Rattle.mt_files.specs.declared.target.Link.{Link}
 use Rattle.mt_files.specs.declared.target.Target.{Target}
 use Rattle.mt_files.specs.declared.target.Target.TheVariants as target
 use Rattle.mt_tokens.specs.declared.source.SourceFault.{SourceFault}
@@ -26,7 +26,7 @@ is_source_target (target.File path) = true
 is_source_target target.None = false
 is_source_target (target.BadPackage path) = false
 
-abbrev pub is_file : Resolution → Bool
+abbrev pub is_file : Link → Bool
 is_file link = is_source_target link.target
 
 -- what was found by path, where nothing was found at an entry that is missing
@@ -63,7 +63,7 @@ abbrev pub faults_of_all : List (List ℕ × Option Member) → List BuildFault
 faults_of_all ms = flat_map (λ m. member_faults m.0 m.1) ms
 
 -- the module of what a source became, or its first fault
-abbrev pub made_or_fault : List ℕ → List Resolution → Result Output SourceFault → Result Node BuildFault
+abbrev pub made_or_fault : List ℕ → List Link → Result Output SourceFault → Result Node BuildFault
 made_or_fault path links (Ok output) = decided (record { output = output; links = links }) (link_faults path output links)
 made_or_fault path links (Err fault) = Err (Source path fault)
 

@@ -1,12 +1,12 @@
 //! What an exploration finds.
 use mt_containers::List;
-use mt_files::Resolution;
+use mt_files::Link;
 use mt_path::Path;
 use mt_tokens::{Shared, SourceFault};
 use mt_transform::Output;
 
 /// Where the names of a module lead, in their order.
-pub type LinkList = List<Resolution>;
+pub type LinkList = List<Link>;
 
 /// What was found at a path that has a source.
 #[derive(Drop)]

@@ -44,7 +44,7 @@ fn lead_to_sources(links: &LinkList) -> bool
 {
     links
         .iter()
-        .all(|link| matches!(&link.target, Target::File(_)))
+        .all(|link| matches!(&*link.target, Target::File(_)))
 }
 
 /// One fault.

@@ -1,4 +1,4 @@
-use Rattle.std.proofs.Common.{◌≡◌, ◌∙◌, rules, inl, inr, ap}
+use Rattle.std.proofs.Common.{◌∙◌, rules, inl, inr, ap}
 use Rattle.std.specs.Prelude.{Ok}
 use Rattle.mt_files.specs.Crawl.{files_of, no_files, with_files}
 use Rattle.mt_files.proofs.CrawlReads.{described, described_made, described_tree, read_sources}

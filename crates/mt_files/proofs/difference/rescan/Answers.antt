@@ -1,5 +1,3 @@
-use Rattle.std.proofs.Common.{◌≡◌, ◌∙◌, inl, inr, ap}
-use Rattle.std.specs.Prelude.{Ok, Err}
 use Rattle.mt_files.proofs.Rescans.{rescanned_fault, rescanned_found}
 use Rattle.mt_files.proofs.difference.rescan.Goals as goal
 

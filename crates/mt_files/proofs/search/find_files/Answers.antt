@@ -1,4 +1,4 @@
-use Rattle.std.proofs.Common.{[], ◌∷◌, ◌++◌, ◌∙◌, rules, sym, subst, arith}
+use Rattle.std.proofs.Common.{◌∙◌, rules, sym, subst, arith}
 use Rattle.std.specs.List.{Contains}
 use Rattle.std.proofs.lemmas.List.Elements.{Contains-push}
 use Rattle.mt_files.proofs.Listings.{listed_start}

@@ -1,4 +1,3 @@
-use Rattle.std.proofs.Common.{[], ◌∷◌, ◌++◌}
 use Rattle.std.proofs.lemmas.List.Elements.{Contains-push}
 use Rattle.mt_files.proofs.Listings.{listed_step}
 use Rattle.mt_files.proofs.Searches.{searched_step, shown_step}

@@ -16,6 +16,6 @@ returns c = record {
       (ap (λ xs. slice_get xs c.args.i) (sym c.names.ensures.value) ∙ sym c.in-Some.ensures.item)
       (sym c.in-Some-get.ensures.item)
       (c.place_at-place.ensures.exact ∙ ap (λ ps. slice_index ps c.args.i) c.requires.places)
-      c.in_ok-fault_of_target.ensures.exact)
+      (rw c.deref.ensures.value at c.in_ok-fault_of_target.ensures.exact))
       c.append.ensures.ok;
 }

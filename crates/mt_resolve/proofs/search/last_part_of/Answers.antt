@@ -4,7 +4,7 @@ use Rattle.mt_path.specs.Names.{last}
 use Rattle.mt_path.specs.Segments.{parts_of}
 use Rattle.mt_path.proofs.Splits.{cut_last, split_between}
 use Rattle.mt_path.proofs.Folders.{last_push}
-use Rattle.mt_resolve.proofs.names.last_part_of.Goals as goal
+use Rattle.mt_resolve.proofs.search.last_part_of.Goals as goal
 
 pub returns-in-Some : goal.returns-in-Some
 returns-in-Some c =
