@@ -1,57 +1,65 @@
 -- What the words ask for.
-use Rattle.std.proofs.Common.{inl, inr, ◌⊎◌, ◌≡◌, ℕ, List, [], ◌∷◌, Option, Some, None, Result, Ok, Err, ap, sym, subst}
-use Rattle.std.specs.Option.{option_map_or}
+use Rattle.std.proofs.Common.{inl, inr, ◌⊎◌, ◌≡◌, ◌∙◌, ℕ, Bool, true, false, cond, List, Result, Ok, Err, refl, ap, sym, subst, codes}
+use Rattle.std.specs.Str.{bytes_eq}
 use Rattle.mt_io.specs.Files.{Files}
-use Rattle.mt_files.specs.Asks.{Ask}
-use Rattle.mt_script.specs.Scripts.{script_of}
-use Rattle.metro_program.specs.declared.words.Action.{Action}
-use Rattle.metro_program.specs.declared.words.Action.TheVariants.{Bundle, Deps, Check, Replay}
-use Rattle.metro_program.specs.declared.words.Request.{Request}
-use Rattle.metro_program.specs.declared.words.WordFault.{WordFault}
-use Rattle.metro_program.specs.declared.words.WordFault.TheVariants.{BadWord, NoMemory}
+use Rattle.mt_request.specs.Asks.{AreEntries, build_ask, grown_ask}
+use Rattle.mt_request.specs.Requests.{AreSaid, asked, request_in, request_of}
+use Rattle.mt_request.specs.declared.fault.WordFault.{WordFault}
+use Rattle.mt_request.specs.declared.fault.WordFault.TheVariants.{NoMemory}
+use Rattle.mt_request.specs.declared.growth.Action.{Action}
+use Rattle.mt_request.specs.declared.growth.Action.TheVariants.{Bundle, Deps, Check, Replay}
+use Rattle.mt_request.specs.declared.request.Request.{Request}
+use Rattle.mt_request.proofs.Entries.{entries_said, grown_fits}
+use Rattle.mt_request.proofs.Said.{line_said}
 use Rattle.mt_revision.specs.Revisions.{bundle_of}
+use Rattle.mt_script.specs.Scripts.{script_of}
+use Rattle.mt_words.specs.Words.{words_of}
+use Rattle.mt_words.specs.declared.table.CommandSet.TheVariants.{Still}
+use Rattle.mt_words.specs.declared.words.Words.{Words}
+use Rattle.mt_words.specs.declared.words.WordsFault.{WordsFault}
 use Rattle.metro_program.specs.Bundle.{Bundles}
 use Rattle.metro_program.specs.Check.{Checks}
 use Rattle.metro_program.specs.Deps.{PrintsGraph}
 use Rattle.metro_program.specs.Replays.{Replays}
-use Rattle.metro_program.specs.States.{AreEntries}
 use Rattle.metro_program.specs.Still.{action_plan, words_plan}
-use Rattle.metro_program.specs.Words.{action_of, ask_of, asked, entry_words, words_of}
-use Rattle.metro_program.proofs.AreEntries.{one_entry}
 use Rattle.metro_program.proofs.Checks.{checks}
 use Rattle.metro_program.proofs.First.{writes_first}
 use Rattle.metro_program.proofs.PrintsGraph.{prints_graph}
 use Rattle.metro_program.proofs.Replays.{replays}
 
-asked_entry : (action : Action) (entry : Result (List ℕ) WordFault) (request : Request) → asked action entry ≡ Ok request → AreEntries request.ask.entries
-asked_entry action (Ok entry) request e = let asks : Request = record { action = action; ask = ask_of entry } in let k : asks ≡ request = cc in subst (λ (r : Request). AreEntries r.ask.entries) k (one_entry entry)
-asked_entry action (Err fault) request e = absurd (cc)
+ask_entries : (words : Words) → AreSaid words → (grows : Bool) → bytes_eq words.command (codes "grow") ≡ grows → AreEntries (cond grows grown_ask (build_ask words.positionals words.options)).entries
+ask_entries words said true e = grown_fits
+ask_entries words said false e = entries_said words said e
 
-named_entry : (action : Option Action) (words : List (List ℕ)) (request : Request) → option_map_or (λ a. asked a (entry_words words)) action (Err (BadWord 1)) ≡ Ok request → AreEntries request.ask.entries
-named_entry None words request e = absurd (cc)
-named_entry (Some action) words request e = asked_entry action (entry_words words) request e
+said_entries : (words : Words) → AreSaid words → AreEntries (request_in words).ask.entries
+unfolding request_in
+said_entries words said = ask_entries words said (bytes_eq words.command (codes "grow")) refl
 
--- the words ask for entries that a build may have
-pub words_entries : (words : List (List ℕ)) (request : Request) → words_of words ≡ Ok request → AreEntries request.ask.entries
-words_entries [] request e = absurd (cc)
-words_entries (word ∷ words) request e = named_entry (action_of word) words request e
+read_entries : (line : List (List ℕ)) (request : Request) (read : Result Words WordsFault) → words_of Still line ≡ read → asked read ≡ Ok request → AreEntries request.ask.entries
+read_entries line request (Ok words) e h = let z : request_in words ≡ request = cc in subst (λ (r : Request). AreEntries r.ask.entries) z (said_entries words (line_said line words e))
+read_entries line request (Err fault) e h = absurd (cc)
 
--- the plan of words is that of what they ask for
-words_as : (words : List (List ℕ)) (action : Action) (ask : Ask) (tree : Files) (bytes : List ℕ) → words_of words ≡ Ok (record { action = action; ask = ask }) → action_plan action ask tree bytes ≡ words_plan (words_of words) tree bytes
-words_as words action ask tree bytes e = ap (λ w. words_plan w tree bytes) (sym e)
+-- words ask for entries that a build may have
+request_entries : (line : List (List ℕ)) (request : Request) → request_of line ≡ Ok request → AreEntries request.ask.entries
+request_entries line request h = read_entries line request (words_of Still line) refl h
 
--- what the plan of words says that ask for a bundle, a graph, a check, or a replay
-pub words_bundle : (words : List (List ℕ)) (ask : Ask) (tree : Files) (bytes : List ℕ) → words_of words ≡ Ok (record { action = Bundle; ask = ask }) → Bundles ask tree (words_plan (words_of words) tree bytes)
-words_bundle words ask tree bytes e = subst (Bundles ask tree) (words_as words Bundle ask tree bytes e) (writes_first bundle_of ask tree (words_entries words (record { action = Bundle; ask = ask }) e))
+module _ (words : List (List ℕ)) (request : Request) (tree : Files) (bytes : List ℕ) (e : request_of words ≡ Ok request) where
+  -- the plan of words is that of what they ask for
+  words_as : (action : Action) → request.action ≡ action → action_plan action request tree bytes ≡ words_plan (request_of words) tree bytes
+  words_as action is = ap (λ a. action_plan a request tree bytes) (sym is) ∙ ap (λ w. words_plan w tree bytes) (sym e)
 
-pub words_deps : (words : List (List ℕ)) (ask : Ask) (tree : Files) (bytes : List ℕ) → words_of words ≡ Ok (record { action = Deps; ask = ask }) → PrintsGraph ask tree (words_plan (words_of words) tree bytes)
-words_deps words ask tree bytes e = subst (PrintsGraph ask tree) (words_as words Deps ask tree bytes e) (prints_graph ask tree (words_entries words (record { action = Deps; ask = ask }) e))
+  -- what the plan of words says that ask for a bundle, a graph, a check, or a replay
+  pub words_bundle : request.action ≡ Bundle → Bundles request.ask tree (words_plan (request_of words) tree bytes)
+  words_bundle is = subst (Bundles request.ask tree) (words_as Bundle is) (writes_first bundle_of request.ask tree (request_entries words request e))
 
-pub words_check : (words : List (List ℕ)) (ask : Ask) (tree : Files) (bytes : List ℕ) → words_of words ≡ Ok (record { action = Check; ask = ask }) → Checks ask tree (words_plan (words_of words) tree bytes)
-words_check words ask tree bytes e = subst (Checks ask tree) (words_as words Check ask tree bytes e) (checks ask tree)
+  pub words_deps : request.action ≡ Deps → PrintsGraph request.ask tree (words_plan (request_of words) tree bytes)
+  words_deps is = subst (PrintsGraph request.ask tree) (words_as Deps is) (prints_graph request.ask tree (request_entries words request e))
 
-pub words_replay : (words : List (List ℕ)) (ask : Ask) (tree : Files) (bytes : List ℕ) → words_of words ≡ Ok (record { action = Replay; ask = ask }) → Replays ask tree (script_of bytes) (words_plan (words_of words) tree bytes)
-words_replay words ask tree bytes e = subst (Replays ask tree (script_of bytes)) (words_as words Replay ask tree bytes e) (replays ask tree bytes (words_entries words (record { action = Replay; ask = ask }) e))
+  pub words_check : request.action ≡ Check → Checks request.ask tree (words_plan (request_of words) tree bytes)
+  words_check is = subst (Checks request.ask tree) (words_as Check is) (checks request.ask tree)
+
+  pub words_replay : request.action ≡ Replay → Replays request.full request.ask tree (script_of bytes) (words_plan (request_of words) tree bytes)
+  words_replay is = subst (Replays request.full request.ask tree (script_of bytes)) (words_as Replay is) (replays request.full request.ask tree bytes (request_entries words request e))
 
 -- what a reader of words answers
 abbrev pub ReadsWords : Result Request WordFault → Result Request WordFault → Type 0

@@ -1,5 +1,5 @@
 -- Each state is bounded: its files and its numbered paths are among the first files and those that were changed.
-use Rattle.std.proofs.Common.{inl, inr, ◌⊎◌, ◌≡◌, ◌≤◌, ◌<◌, ◌+◌, ◌-◌, ℕ, Bool, true, false, cond, List, [], ◌∷◌, ◌++◌, map, length, Option, Some, None, Ok, refl, ap, sym, subst, ◌∙◌, ◌==◌, if◌then◌else◌, append_assoc, arith, length-append}
+use Rattle.std.proofs.Common.{inl, inr, ◌⊎◌, ◌≡◌, ◌≤◌, ◌<◌, ◌+◌, ◌-◌, ℕ, Bool, true, false, cond, List, [], ◌∷◌, ◌++◌, map, length, Option, Some, None, refl, ap, sym, subst, ◌∙◌, ◌==◌, if◌then◌else◌, append_assoc, arith, length-append}
 use Rattle.std.specs.List.{list_all, slice_get, IsDistinct}
 use Rattle.std.specs.Option.{IfSome, is_some, option_and_then}
 use Rattle.std.specs.Str.{bytes_eq}
@@ -12,26 +12,22 @@ use Rattle.std.proofs.lemmas.List.{map-append, length-map}
 use Rattle.std.proofs.lemmas.Map.Made.{length-le_from_is_member}
 use Rattle.mt_files.specs.Asks.{Ask}
 use Rattle.mt_files.specs.Changes.{path_of, stepped}
-use Rattle.mt_files.specs.Fresh.{all_faults}
 use Rattle.mt_files.specs.Reach.{reach}
 use Rattle.mt_files.specs.Snapshots.{Snapshot}
-use Rattle.mt_files.specs.declared.build_fault.BuildFault.{BuildFault}
 use Rattle.mt_files.specs.declared.change.Change.{Change}
 use Rattle.mt_files.specs.declared.change.Change.TheVariants.{Put, Del}
 use Rattle.mt_files.specs.declared.file_map.Entry.{Entry}
 use Rattle.mt_files.proofs.PathLists.{Has, append_left, append_right, has_head, has_key}
-use Rattle.mt_files.proofs.Reach.{reach_ascending}
 use Rattle.mt_io.proofs.Children.{tied_is}
 use Rattle.mt_revision.specs.Numberings.{has_path}
 use Rattle.mt_revision.specs.Revisions.{next_number}
 use Rattle.mt_revision.specs.declared.revision.Revision.{Revision}
-use Rattle.mt_revision.proofs.Extensions.{ascending_distinct, extended_distinct, extended_member}
+use Rattle.mt_revision.proofs.Extensions.{extended_member}
 use Rattle.mt_revision.proofs.Contents.{all_from}
 use Rattle.metro_program.specs.declared.state.NextBuild.{NextBuild}
-use Rattle.metro_program.specs.States.{AreEntries, IsBounded, IsLatest, State, opened}
-use Rattle.metro_program.specs.Builds.{build_with, fresh_build, next_build, number_at, numbering_after, same_number, with_build}
+use Rattle.metro_program.specs.States.{IsBounded, IsLatest, State, opened}
+use Rattle.metro_program.specs.Builds.{IsNext, number_at, numbering_after, same_number, with_build}
 use Rattle.metro_program.specs.Commands.{with_change}
-use Rattle.metro_program.proofs.EntryFiles.{numbered_file}
 
 -- ---- known paths
 
@@ -127,7 +123,7 @@ bounded_changed s change b = record {
 -- ---- how much there is
 
 -- distinct paths that are known are so many
-few_known : (first : List (List ℕ)) (journal : List Change) (paths : List (List ℕ)) → length first ≤ 262144 → length journal ≤ 65536 → IsDistinct bytes_eq paths → ((path : List ℕ) → has_path paths path ≡ true → Known first journal path) → length paths ≤ 327680
+pub few_known : (first : List (List ℕ)) (journal : List Change) (paths : List (List ℕ)) → length first ≤ 262144 → length journal ≤ 65536 → IsDistinct bytes_eq paths → ((path : List ℕ) → has_path paths path ≡ true → Known first journal path) → length paths ≤ 327680
 few_known first journal paths few changes distinct known =
     let all = length-le_from_is_member nat_list_eq_equiv paths (first ++ map path_of journal) distinct known in
     let both = length-append first (map path_of journal) in
@@ -145,34 +141,9 @@ by_test n false e = refl
 uncounted : (r : Revision) (count : ℕ) → number_at count r ≡ None → r.changes ≡ count → ⊥
 uncounted r count e = eqb-false r.changes count (by_test r.number (r.changes == count) e)
 
-module _ (s : State) (b : IsBounded s) (are : AreEntries s.ask.entries) (clean : all_faults s.ask s.files ≡ []) where
-  known_numbered : (path : List ℕ) → has_path (numbering_after s) path ≡ true → Known b.first s.journal path
-  known_numbered path has = elim (numbered_file s.ask s.files s.numbering path clean has) [
-    | inl old ↦ b.numbered path old
-    | inr file ↦ b.files path file
-  ]
-
-  distinct_numbered : IsDistinct bytes_eq (numbering_after s)
-  distinct_numbered = extended_distinct s.numbering s.ask.entries (reach s.ask s.files) b.distinct are.distinct (ascending_distinct (reach s.ask s.files) (reach_ascending s.ask s.files))
-
-  -- the numbered paths are so many after a build
-  pub few_extended : length s.journal ≤ 65536 → length (numbering_after s) ≤ 327680
-  few_extended few = few_known b.first s.journal (numbering_after s) b.few few distinct_numbered known_numbered
-
-  latest_next : (latest : Option Revision) → IfSome latest (IsLatest s) → option_and_then (number_at (length s.journal)) latest ≡ None → next_number latest ≤ length s.journal + 1
-  latest_next None h new = omega arith
-  latest_next (Some r) h new = let n = h.number in let c = h.changes in let k = uncounted r (length s.journal) new in omega (arith, n, c, k)
-
-  -- a state is bounded after a build of the files
-  pub bounded_built : same_number s ≡ None → IsBounded (with_build s (next_build s))
-  bounded_built new = record {
-    first = b.first;
-    few = b.few;
-    files = b.files;
-    numbered = known_numbered;
-    distinct = distinct_numbered;
-    latest = record { dev = refl; number = latest_next s.latest b.latest new; changes = omega arith };
-  }
+next_number_few : (s : State) (latest : Option Revision) → IfSome latest (IsLatest s) → option_and_then (number_at (length s.journal)) latest ≡ None → next_number latest ≤ length s.journal + 1
+next_number_few s None h new = omega arith
+next_number_few s (Some r) h new = let n = h.number in let c = h.changes in let k = uncounted r (length s.journal) new in omega (arith, n, c, k)
 
 -- ---- the latest revision
 
@@ -186,14 +157,6 @@ latest_dev s None h = tt
 latest_dev s (Some r) h = h.dev
 
 -- ---- builds
-
--- a build that was made is of files without a fault, and is the next one
-built_by : (s : State) (build : NextBuild) (faults : List BuildFault) → build_with s faults ≡ Ok build → (faults ≡ []) × (build ≡ next_build s)
-built_by s build [] h = (refl, let e : build ≡ next_build s = cc in e)
-built_by s build (fault ∷ faults) h = absurd (cc)
-
-pub built : (s : State) (build : NextBuild) → fresh_build s ≡ Ok build → (all_faults s.ask s.files ≡ []) × (build ≡ next_build s)
-built s build h = built_by s build (all_faults s.ask s.files) h
 
 -- each module that is reached has a number after a build
 pub all_numbered : (s : State) → list_all (has_path (numbering_after s)) (reach s.ask s.files) ≡ true
@@ -229,5 +192,19 @@ last_pushed xs journal x y is last =
     cc
 
 -- with a build
-pub bounded_accept : (s : State) (build : NextBuild) → IsBounded s → AreEntries s.ask.entries → fresh_build s ≡ Ok build → same_number s ≡ None → IsBounded (with_build s build)
-bounded_accept s build b are fresh new = let m = built s build fresh in subst (λ x. IsBounded (with_build s x)) (sym m.1) (bounded_built s b are m.0 new)
+pub bounded_accept : (s : State) (build : NextBuild) → IsBounded s → IsNext s build → same_number s ≡ None → IsBounded (with_build s build)
+bounded_accept s build b next new =
+    let few = next_number_few s s.latest b.latest new in
+    let number = next.made.number in
+    let changes = next.changes in
+    record {
+      first = b.first;
+      few = b.few;
+      files = b.files;
+      numbered = λ path h. elim (next.numbered path h) [
+        | inl old ↦ b.numbered path old
+        | inr file ↦ b.files path file
+      ];
+      distinct = next.distinct;
+      latest = record { dev = next.dev; number = omega (arith, few, number, changes); changes = omega (arith, changes) };
+    }

@@ -22,8 +22,9 @@ use Rattle.mt_report.specs.Outcomes.{build_outcome, crawl_outcome}
 use Rattle.mt_report.specs.declared.outcome.Outcome.{Outcome}
 use Rattle.mt_report.specs.declared.outcome.Outcome.TheVariants.{Refused}
 use Rattle.metro_program.specs.declared.state.NextBuild.{NextBuild}
-use Rattle.metro_program.specs.Progress.{Fulfils}
-use Rattle.metro_program.specs.States.{AreEntries, State, opened}
+use Rattle.metro_program.specs.Progress.{Fulfils, Keeps}
+use Rattle.mt_request.specs.Asks.{AreEntries}
+use Rattle.metro_program.specs.States.{State, opened}
 use Rattle.metro_program.specs.Builds.{build_with, fresh_build, next_build, numbering_after}
 use Rattle.metro_program.specs.First.{WritesFirst, built_plan, first_numbering, first_plan, snapshot_plan}
 use Rattle.metro_program.specs.Plans.{taken_plan, without_bytes}
@@ -108,17 +109,20 @@ built_err s fault other (inr h) = sym h
 
 -- of a build that this is the build of
 module _ (text : Revision → List ℕ) (s : State) where
-  pub fulfils_built : (build : NextBuild) (found : Outcome) (before after : Seen (List ℕ)) → IsBuild s (Ok build) → Fulfils (built_plan text (Ok build)) found before after → Fulfils (built_plan text (fresh_build s)) found before after
-  fulfils_built build found before after is h = subst (λ r. Fulfils (built_plan text r) found before after) (sym (built_ok s build is)) h
+  pub keeps_built : (build : NextBuild) (found : Outcome) (before after : Seen (List ℕ)) → IsBuild s (Ok build) → Keeps (built_plan text (Ok build)) found before after → Keeps (built_plan text (fresh_build s)) found before after
+  keeps_built build found before after is h = subst (λ r. Keeps (built_plan text r) found before after) (sym (built_ok s build is)) h
 
   refused_by : (fault : BuildFault) (out : Seen (List ℕ)) → (fault ≡ fault_of.NoMemory → ⊥) → IsBuild s (Err fault) → Fulfils (built_plan text (fresh_build s)) (Refused fault) out out
   refused_by fault out other h = subst (λ r. Fulfils (built_plan text r) (Refused fault) out out) (sym (built_err s fault other h)) (fulfils_wrote (without_bytes (Refused fault)) out out (omega arith) (wrote_none out))
 
-  -- the build was refused, and nothing was written; or memory ran out
-  pub fulfils_refused : (fault : BuildFault) (out : Seen (List ℕ)) → IsBuild s (Err fault) → Fulfils (built_plan text (fresh_build s)) (build_outcome fault) out out
+  fulfils_refused : (fault : BuildFault) (out : Seen (List ℕ)) → IsBuild s (Err fault) → Fulfils (built_plan text (fresh_build s)) (build_outcome fault) out out
   fulfils_refused (fault_of.EntryMissing path) out h = refused_by (fault_of.EntryMissing path) out (λ e. cc) h
   fulfils_refused (fault_of.Source path fault) out h = refused_by (fault_of.Source path fault) out (λ e. cc) h
   fulfils_refused (fault_of.Unresolved path place name) out h = refused_by (fault_of.Unresolved path place name) out (λ e. cc) h
   fulfils_refused (fault_of.Package path place package_path) out h = refused_by (fault_of.Package path place package_path) out (λ e. cc) h
   fulfils_refused fault_of.TooManyModules out h = refused_by fault_of.TooManyModules out (λ e. cc) h
   fulfils_refused fault_of.NoMemory out h = fulfils_memory (built_plan text (fresh_build s)) out
+
+  -- the build was refused, and nothing was written; or memory ran out
+  pub keeps_refused : (fault : BuildFault) (found : Outcome) (out : Seen (List ℕ)) → found ≡ build_outcome fault → IsBuild s (Err fault) → Keeps (built_plan text (fresh_build s)) found out out
+  keeps_refused fault found out is h = subst (λ x. Keeps (built_plan text (fresh_build s)) x out out) (sym is) (fulfils_refused fault out h).keeps

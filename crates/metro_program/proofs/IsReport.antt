@@ -1,5 +1,5 @@
 -- What a replay writes are the lines of what its builds answered, up to the command at which it ended.
-use Rattle.std.proofs.Common.{◌≡◌, ◌+◌, ◌++◌, ◌∙◌, ℕ, zero, suc, List, [], ◌∷◌, length, Option, Some, Result, Ok, Err, refl, ap, sym, subst}
+use Rattle.std.proofs.Common.{◌≡◌, ◌+◌, ◌++◌, ◌∙◌, ℕ, Bool, zero, suc, List, [], ◌∷◌, length, Option, Some, Result, Ok, Err, refl, ap, sym, subst}
 use Rattle.std.specs.List.{All, fold}
 use Rattle.mt_io.specs.Files.{Files}
 use Rattle.mt_files.specs.Asks.{Ask}
@@ -19,32 +19,36 @@ use Rattle.metro_program.specs.Replay.{History, ended, led, lines_of, moved_by, 
 use Rattle.metro_program.specs.Replays.{EndsAt, IsReport}
 
 -- the plan after a command that leads here
-abbrev pub plan_after : Files → Option ScriptFault → History → List Command → Result History Outcome → Plan
-plan_after tree fault h commands (Ok now) = replayed tree fault now commands
-plan_after tree fault h commands (Err outcome) = ended h outcome
+abbrev pub plan_after : Bool → Files → Option ScriptFault → History → List Command → Result History Outcome → Plan
+plan_after full tree fault h commands (Ok now) = replayed full tree fault now commands
+plan_after full tree fault h commands (Err outcome) = ended full h outcome
 
-pub one_after : (tree : Files) (fault : Option ScriptFault) (h : History) (commands : List Command) (m : Result History Outcome) → elim m [ Ok now ↦ replayed tree fault now commands | Err outcome ↦ ended h outcome ] ≡ plan_after tree fault h commands m
-one_after tree fault h commands (Ok now) = refl
-one_after tree fault h commands (Err outcome) = refl
+pub one_after :
+    (full : Bool) (tree : Files) (fault : Option ScriptFault) (h : History) (commands : List Command) (m : Result History Outcome)
+    → elim m [ Ok now ↦ replayed full tree fault now commands | Err outcome ↦ ended full h outcome ] ≡ plan_after full tree fault h commands m
+one_after full tree fault h commands (Ok now) = refl
+one_after full tree fault h commands (Err outcome) = refl
 
 -- the plan of a command and those after it
-pub replayed_step : (tree : Files) (fault : Option ScriptFault) (h : History) (command : Command) (commands : List Command) → replayed tree fault h (command ∷ commands) ≡ plan_after tree fault h commands (led h.answers (moved tree h.state command))
-replayed_step tree fault h command commands = one_after tree fault h commands (led h.answers (moved tree h.state command))
+pub replayed_step :
+    (full : Bool) (tree : Files) (fault : Option ScriptFault) (h : History) (command : Command) (commands : List Command)
+    → replayed full tree fault h (command ∷ commands) ≡ plan_after full tree fault h commands (led h.answers (moved tree h.state command))
+replayed_step full tree fault h command commands = one_after full tree fault h commands (led h.answers (moved tree h.state command))
 
 -- from here, these commands are carried out in part or whole
-pub record Reported (tree : Files) (fault : Option ScriptFault) (h : History) (commands : List Command) (plan : Plan) : Type 0 where
+pub record Reported (full : Bool) (tree : Files) (fault : Option ScriptFault) (h : History) (commands : List Command) (plan : Plan) : Type 0 where
   pub done : List Command
   pub rest : List Command
   pub parts : commands ≡ done ++ rest
   pub now : History
   pub led : moved_by tree h done ≡ Ok now
-  pub lines : plan.bytes ≡ lines_of now.answers
+  pub lines : plan.bytes ≡ lines_of full now.answers
   pub ends : EndsAt tree fault now rest plan.outcome
 
-module _ (tree : Files) (fault : Option ScriptFault) where
+module _ (full : Bool) (tree : Files) (fault : Option ScriptFault) where
   reported_step :
-      (h : History) (command : Command) (commands : List Command) (m : Result Step Outcome) → moved tree h.state command ≡ m → ((t : History) → Reported tree fault t commands (replayed tree fault t commands))
-      → Reported tree fault h (command ∷ commands) (plan_after tree fault h commands (led h.answers m))
+      (h : History) (command : Command) (commands : List Command) (m : Result Step Outcome) → moved tree h.state command ≡ m → ((t : History) → Reported full tree fault t commands (replayed full tree fault t commands))
+      → Reported full tree fault h (command ∷ commands) (plan_after full tree fault h commands (led h.answers m))
   reported_step h command commands (Err outcome) e later = record { done = []; rest = command ∷ commands; parts = refl; now = h; led = refl; lines = refl; ends = e }
   reported_step h command commands (Ok step) e later =
       let r = later (record { state = step.state; answers = h.answers ++ step.answers }) in
@@ -58,16 +62,16 @@ module _ (tree : Files) (fault : Option ScriptFault) where
         ends = r.ends;
       }
 
-  pub reported : (commands : List Command) (h : History) → Reported tree fault h commands (replayed tree fault h commands)
+  pub reported : (commands : List Command) (h : History) → Reported full tree fault h commands (replayed full tree fault h commands)
   reported [] h = record { done = []; rest = []; parts = refl; now = h; led = refl; lines = refl; ends = refl }
   reported (command ∷ commands) h =
-      subst (Reported tree fault h (command ∷ commands)) (sym (replayed_step tree fault h command commands))
+      subst (Reported full tree fault h (command ∷ commands)) (sym (replayed_step full tree fault h command commands))
       (reported_step h command commands (moved tree h.state command) refl (reported commands))
 
 -- the plan of a replay over a snapshot
-pub report_of : (tree : Files) (ask : Ask) (files : Snapshot) (script : Script) → IsReport tree ask files script (script_plan tree (unbuilt ask files) (with_command Build script))
-report_of tree ask files script =
-    let r = reported tree script.ending (Build ∷ script.commands) (unbuilt ask files) in
+pub report_of : (full : Bool) (tree : Files) (ask : Ask) (files : Snapshot) (script : Script) → IsReport full tree ask files script (script_plan full tree (unbuilt ask files) (with_command Build script))
+report_of full tree ask files script =
+    let r = reported full tree script.ending (Build ∷ script.commands) (unbuilt ask files) in
     record { done = r.done; rest = r.rest; parts = r.parts; now = r.now; led = r.led; lines = r.lines; ends = r.ends }
 
 -- ---- a script has no `end` among its commands

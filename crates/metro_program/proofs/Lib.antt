@@ -1,8 +1,9 @@
-pub mod AreEntries
+pub mod Traverses
 pub mod Writes
-pub mod EntryFiles
+pub mod GraphFiles
 pub mod Bounded
 pub mod NextBuild
+pub mod Refusals
 pub mod Moves
 pub mod IsKept
 pub mod IsFresh
@@ -13,8 +14,10 @@ pub mod IsLastBuild
 pub mod Replays
 pub mod Readings
 pub mod Replayed
+pub mod HasRead
 pub mod HasDone
 pub mod Fulfils
+pub mod Grown
 pub mod First
 pub mod PrintsGraph
 pub mod Checks

@@ -1,5 +1,5 @@
 -- The lines of a replay are those of its steps, one after another.
-use Rattle.std.proofs.Common.{◌≡◌, ◌∙◌, ◌++◌, ℕ, List, [], ◌∷◌, Option, Some, None, Ok, refl, ap, sym, append_assoc}
+use Rattle.std.proofs.Common.{◌≡◌, ◌∙◌, ◌++◌, ℕ, Bool, List, [], ◌∷◌, Option, Some, None, Ok, refl, ap, sym, append_assoc}
 use Rattle.std.specs.List.{fold}
 use Rattle.std.specs.Option.{option_map_or}
 use Rattle.std.proofs.lemmas.List.Sums.{fold-append}
@@ -17,9 +17,10 @@ use Rattle.metro_program.proofs.IsKept.{IsKept, holds_after}
 abbrev latest_by : Option Revision → List Answer → Option Revision
 latest_by before answers = fold latest_after before answers
 
-lines_more : (before : Option Revision) (front back : List Answer) → lines_after before (front ++ back) ≡ lines_after before front ++ lines_after (latest_by before front) back
-lines_more before [] back = refl
-lines_more before (a ∷ front) back = ap (λ z. line_after before a ++ z) (lines_more (latest_after before a) front back) ∙ sym (append_assoc (line_after before a) (lines_after (latest_after before a) front) (lines_after (latest_by (latest_after before a) front) back))
+lines_more : (full : Bool) (before : Option Revision) (front back : List Answer) → lines_after full before (front ++ back) ≡ lines_after full before front ++ lines_after full (latest_by before front) back
+lines_more full before [] back = refl
+lines_more full before (a ∷ front) back =
+    ap (λ z. line_after full before a ++ z) (lines_more full (latest_after before a) front back) ∙ sym (append_assoc (line_after full before a) (lines_after full (latest_after before a) front) (lines_after full (latest_by (latest_after before a) front) back))
 
 -- the latest revision of a state is that of its answers
 abbrev pub IsLed : History → Type 0
@@ -44,9 +45,9 @@ pub led_after : (tree : Files) (h now : History) (commands : List Command) → I
 led_after tree h now commands l e = holds_after IsLed kept_led tree h now commands l e
 
 -- the lines with those of one more step
-pub lines_step : (h : History) (answers : List Answer) → IsLed h → lines_of (h.answers ++ answers) ≡ lines_of h.answers ++ lines_after h.state.latest answers
-lines_step h answers l = lines_more None h.answers answers ∙ ap (λ r. lines_of h.answers ++ lines_after r answers) l
+pub lines_step : (full : Bool) (h : History) (answers : List Answer) → IsLed h → lines_of full (h.answers ++ answers) ≡ lines_of full h.answers ++ lines_after full h.state.latest answers
+lines_step full h answers l = lines_more full None h.answers answers ∙ ap (λ r. lines_of full h.answers ++ lines_after full r answers) l
 
 -- the lines of some answers and more begin with those of the first
-pub lines_split : (front back : List Answer) → (more : List ℕ) × (lines_of (front ++ back) ≡ lines_of front ++ more)
-lines_split front back = (lines_after (latest_by None front) back, lines_more None front back)
+pub lines_split : (full : Bool) (front back : List Answer) → (more : List ℕ) × (lines_of full (front ++ back) ≡ lines_of full front ++ more)
+lines_split full front back = (lines_after full (latest_by None front) back, lines_more full None front back)

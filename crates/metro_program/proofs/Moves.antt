@@ -1,5 +1,5 @@
 -- What a call that led on, or ended a run, says of the command that it carried out.
-use Rattle.std.proofs.Common.{inl, inr, ◌⊎◌, ◌≡◌, ℕ, List, [], ◌∷◌, Result, Ok, Err, refl, ap, sym, subst, arith}
+use Rattle.std.proofs.Common.{inl, inr, ◌⊎◌, ◌≡◌, ℕ, Bool, List, [], ◌∷◌, Result, Ok, Err, refl, ap, sym, subst, arith}
 use Rattle.std.specs.List.{fold}
 use Rattle.std.specs.Prelude.{IfErr, OnOk}
 use Rattle.mt_io.specs.Seen.{Seen}
@@ -39,7 +39,7 @@ pub change_ends :
 change_ends s now last change changes outcome (inl h) = inl h
 change_ends s now last change changes outcome (inr h) = inr (moved_end (changed s change) now last outcome changes h)
 
-led_on : (m : Result State Outcome) (now : State) → IsMove m now (Ok tt) → m ≡ Ok now
+pub led_on : (m : Result State Outcome) (now : State) → IsMove m now (Ok tt) → m ≡ Ok now
 led_on (Ok s) now h = ap Ok (sym h.1)
 led_on (Err wanted) now h = absurd (cc)
 
@@ -64,40 +64,40 @@ pub no_write : IsPlanned WriteFailed → ⊥
 no_write (inl h) = absurd (omega (arith, h))
 no_write (inr h) = absurd (omega (arith, h))
 
-module _ (m : Result State Outcome) (before now : State) (a : Seen (List ℕ)) where
-  went_by : (n : Result State Outcome) → IsMove n now (Ok tt) → Went (in_silence n) before now a a
+module _ (full : Bool) (m : Result State Outcome) (before now : State) (a : Seen (List ℕ)) where
+  went_by : (n : Result State Outcome) → IsMove n now (Ok tt) → Went full (in_silence n) before now a a
   went_by (Ok s) h = (h.1, wrote_none a)
   went_by (Err wanted) h = absurd (let k : Ok tt ≡ Err wanted = h in cc)
 
-  halted_by : (n : Result State Outcome) (outcome : Outcome) → IsMove n now (Err outcome) → Halted (in_silence n) before outcome a a
+  halted_by : (n : Result State Outcome) (outcome : Outcome) → IsMove n now (Err outcome) → Halted full (in_silence n) before outcome a a
   halted_by (Ok s) outcome h = absurd (let k = h.0 in cc)
   halted_by (Err wanted) outcome h = (λ planned. let k : outcome ≡ wanted = cc in k, wrote_none a)
 
-  fault_by : (n : Result State Outcome) (outcome : Outcome) → (IsPlanned outcome → ⊥) → Halted (in_silence n) before outcome a a
+  fault_by : (n : Result State Outcome) (outcome : Outcome) → (IsPlanned outcome → ⊥) → Halted full (in_silence n) before outcome a a
   fault_by (Ok s) outcome h = (h, stopped_none a [])
   fault_by (Err wanted) outcome h = (λ planned. absurd (h planned), wrote_none a)
 
   -- a command that writes nothing led on
-  pub went_silent : (r : Result (Unit {0}) Outcome) → Changes m now r → OnOk r (Went (in_silence m) before now a a)
+  pub went_silent : (r : Result (Unit {0}) Outcome) → Changes m now r → OnOk r (Went full (in_silence m) before now a a)
   went_silent (Ok done) (inl h) = absurd (cc)
   went_silent (Ok done) (inr h) = went_by m h
   went_silent (Err outcome) h = tt
 
   -- a command that writes nothing ended the run
-  pub halted_silent : (r : Result (Unit {0}) Outcome) → Changes m now r → IfErr r (λ outcome. Halted (in_silence m) before outcome a a)
+  pub halted_silent : (r : Result (Unit {0}) Outcome) → Changes m now r → IfErr r (λ outcome. Halted full (in_silence m) before outcome a a)
   halted_silent (Ok done) h = tt
   halted_silent (Err outcome) (inl h) = let k : outcome ≡ NoMemory = cc in fault_by m outcome (subst (λ e. IsPlanned e → ⊥) (sym k) no_memory)
   halted_silent (Err outcome) (inr h) = halted_by m outcome h
 
   -- a rescan led on
-  pub went_rescan : (r : Result (Unit {0}) Outcome) → Rescans m now r → OnOk r (Went (in_silence m) before now a a)
+  pub went_rescan : (r : Result (Unit {0}) Outcome) → Rescans m now r → OnOk r (Went full (in_silence m) before now a a)
   went_rescan (Ok done) (inl h) = absurd (cc)
   went_rescan (Ok done) (inr (inl h)) = absurd (cc)
   went_rescan (Ok done) (inr (inr h)) = went_by m h
   went_rescan (Err outcome) h = tt
 
   -- a rescan ended the run
-  pub halted_rescan : (r : Result (Unit {0}) Outcome) → Rescans m now r → IfErr r (λ outcome. Halted (in_silence m) before outcome a a)
+  pub halted_rescan : (r : Result (Unit {0}) Outcome) → Rescans m now r → IfErr r (λ outcome. Halted full (in_silence m) before outcome a a)
   halted_rescan (Ok done) h = tt
   halted_rescan (Err outcome) (inl h) = let k : outcome ≡ NoMemory = cc in fault_by m outcome (subst (λ e. IsPlanned e → ⊥) (sym k) no_memory)
   halted_rescan (Err outcome) (inr (inl h)) = let k : outcome ≡ ReadFailed = cc in fault_by m outcome (subst (λ e. IsPlanned e → ⊥) (sym k) no_read)

@@ -32,7 +32,7 @@ use Rattle.mt_fresh.specs.Calls.{calls_of}
 use Rattle.mt_report.specs.Listings.{graph_line, graph_lines, module_line}
 use Rattle.metro_program.specs.Deps.{IsGraph, PrintsGraph, deps_plan, line_at, lines_at, numbered}
 use Rattle.metro_program.specs.First.{IsTextOf, first_numbering}
-use Rattle.metro_program.specs.States.{AreEntries}
+use Rattle.mt_request.specs.Asks.{AreEntries}
 use Rattle.metro_program.proofs.First.{first_distinct, writes_first}
 
 module _ (options : Options) (numbering : List (List ℕ)) (files : Snapshot) where

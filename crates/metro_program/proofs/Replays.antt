@@ -9,7 +9,7 @@ use Rattle.mt_io.specs.Files.{Files}
 use Rattle.mt_files.specs.Asks.{Ask}
 use Rattle.mt_files.specs.Crawl.{crawled, entry_of}
 use Rattle.mt_files.specs.Fresh.{all_faults}
-use Rattle.mt_files.specs.Journals.{full, is_full, max_changes}
+use Rattle.mt_files.specs.Journals.{full as full_fault, is_full, max_changes}
 use Rattle.mt_files.specs.Limits.{MeetsLimit}
 use Rattle.mt_files.specs.Rescans.{changes_between, changes_to, rescanned}
 use Rattle.mt_files.specs.Snapshots.{Snapshot}
@@ -30,7 +30,8 @@ use Rattle.mt_report.specs.Outcomes.{crawl_outcome, script_outcome, status_of}
 use Rattle.mt_report.specs.declared.outcome.Outcome.{Outcome}
 use Rattle.mt_report.specs.declared.outcome.Outcome.TheVariants.{Limit}
 use Rattle.mt_report.specs.declared.outcome.Limit.TheVariants.{Changes, JournalBytes}
-use Rattle.metro_program.specs.States.{AreEntries, State}
+use Rattle.mt_request.specs.Asks.{AreEntries}
+use Rattle.metro_program.specs.States.{State}
 use Rattle.metro_program.specs.Builds.{Same, Step, asked_step, build_step, build_with, fresh_build, number_at, same_number, with_refusal}
 use Rattle.metro_program.specs.Commands.{answered, changed, in_silence, moved, outcome_of, rescanned_by, then_changed}
 use Rattle.metro_program.specs.Plans.{Plan, without_bytes}
@@ -68,7 +69,7 @@ limit_by : (t : Bool) → IsLimit (if t then Limit JournalBytes else Limit Chang
 limit_by true = refl
 limit_by false = refl
 
-full_limits : (s : State) (c : Change) (t : Bool) → LimitsAlone (answered s c (if t then Err (full s.journal) else Ok tt))
+full_limits : (s : State) (c : Change) (t : Bool) → LimitsAlone (answered s c (if t then Err (full_fault s.journal) else Ok tt))
 full_limits s c true = limit_by (nat_lt (length s.journal) max_changes)
 full_limits s c false = tt
 
@@ -110,7 +111,7 @@ script_late script.TooManyCommands h = absurd (omega (arith, h))
 script_late script.Failed h = absurd (omega (arith, h))
 script_late script.NoMemory h = absurd (omega (arith, h))
 
-module _ (tree : Files) (ask : Ask) (files : Snapshot) (taken : crawled tree ≡ Ok files) (s : Script) (go : All GoesOn s.commands) (plan : Plan) where
+module _ (full : Bool) (tree : Files) (ask : Ask) (files : Snapshot) (taken : crawled tree ≡ Ok files) (s : Script) (go : All GoesOn s.commands) (plan : Plan) where
   whole_at : (done : List Command) (now : History) → Build ∷ s.commands ≡ done ++ [] → moved_by tree (unbuilt ask files) done ≡ Ok now → s.ending ≡ None → plan.outcome ≡ outcome_of now.state → IsWhole tree ask s plan
   whole_at done now parts led over is =
       let all : Build ∷ s.commands ≡ done = parts ∙ append-nil done in
@@ -129,11 +130,11 @@ module _ (tree : Files) (ask : Ask) (files : Snapshot) (taken : crawled tree ≡
       let k : s.commands ≡ done ++ command ∷ rest = cc in
       All-head GoesOn command rest (all_back GoesOn done (command ∷ rest) (subst (All GoesOn) k go))
 
-  ends_at : (r : IsReport tree ask files s plan) (rest : List Command) → r.rest ≡ rest → EndsAt tree s.ending r.now rest plan.outcome → (status_of plan.outcome ≡ 6) ⊎ ((status_of plan.outcome < 2) ⊎ (s.ending ≡ None) → IsWhole tree ask s plan)
+  ends_at : (r : IsReport full tree ask files s plan) (rest : List Command) → r.rest ≡ rest → EndsAt tree s.ending r.now rest plan.outcome → (status_of plan.outcome ≡ 6) ⊎ ((status_of plan.outcome < 2) ⊎ (s.ending ≡ None) → IsWhole tree ask s plan)
   ends_at r [] is ends = inr (over_by r.done r.now s.ending refl (r.parts ∙ ap (λ z. r.done ++ z) is) r.led ends)
   ends_at r (command ∷ rest) is ends = inl (command_limits tree r.now.state command plan.outcome (goes_on r.done command rest (r.parts ∙ ap (λ z. r.done ++ z) is)) ends)
 
-  ended_whole : IsReport tree ask files s plan → (status_of plan.outcome ≡ 6) ⊎ ((status_of plan.outcome < 2) ⊎ (s.ending ≡ None) → IsWhole tree ask s plan)
+  ended_whole : IsReport full tree ask files s plan → (status_of plan.outcome ≡ 6) ⊎ ((status_of plan.outcome < 2) ⊎ (s.ending ≡ None) → IsWhole tree ask s plan)
   ended_whole r = ends_at r r.rest refl r.ends
 
 -- ---- builds that have nothing to build
@@ -184,16 +185,16 @@ replay_facts tree ask files commands now distinct e =
     let s = sound_after ask files tree commands now e in
     record { accepted = journal_is tree ask files commands now e; fresh = s.fresh; traversals = log_traversals ask files now distinct s.fresh }
 
-module _ (ask : Ask) (tree : Files) (bytes : List ℕ) (are : AreEntries ask.entries) where
-  by_found : (found : Result Snapshot CrawlFault) → crawled tree ≡ found → Replays ask tree (script_of bytes) (files_plan tree ask bytes found)
+module _ (full : Bool) (ask : Ask) (tree : Files) (bytes : List ℕ) (are : AreEntries ask.entries) where
+  by_found : (found : Result Snapshot CrawlFault) → crawled tree ≡ found → Replays full ask tree (script_of bytes) (files_plan full tree ask bytes found)
   by_found (Ok files) taken =
-      let report = report_of tree ask files (script_of bytes) in
-      let plan = script_plan tree (unbuilt ask files) (with_command Build (script_of bytes)) in
-      let whole = ended_whole tree ask files taken (script_of bytes) (commands_go_on bytes) plan report in
+      let report = report_of full tree ask files (script_of bytes) in
+      let plan = script_plan full tree (unbuilt ask files) (with_command Build (script_of bytes)) in
+      let whole = ended_whole full tree ask files taken (script_of bytes) (commands_go_on bytes) plan report in
       record {
         limited = λ fault e. absurd (let k : Ok files ≡ Err fault = sym taken ∙ e in cc);
         limit = λ fault e. absurd (let k : Ok files ≡ Err fault = sym taken ∙ e in cc);
-        report = λ others e. subst (λ f. IsReport tree ask f (script_of bytes) plan) (let k : Ok files ≡ Ok others = sym taken ∙ e in let z : files ≡ others = cc in z) report;
+        report = λ others e. subst (λ f. IsReport full tree ask f (script_of bytes) plan) (let k : Ok files ≡ Ok others = sym taken ∙ e in let z : files ≡ others = cc in z) report;
         whole = λ early. elim whole [ inl six ↦ absurd (omega (arith, six, early)) | inr w ↦ w (inl early) ];
         complete = λ over. elim whole [ inl six ↦ inl six | inr w ↦ inr (w (inr over)) ];
         replay = λ fs commands now e. replay_facts tree ask fs commands now are.distinct e;
@@ -214,5 +215,5 @@ module _ (ask : Ask) (tree : Files) (bytes : List ℕ) (are : AreEntries ask.ent
       }
 
   -- what the plan of a replay says
-  pub replays : Replays ask tree (script_of bytes) (replay_plan ask tree bytes)
+  pub replays : Replays full ask tree (script_of bytes) (replay_plan full ask tree bytes)
   replays = by_found (crawled tree) refl

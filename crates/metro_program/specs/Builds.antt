@@ -1,12 +1,16 @@
 -- What a build makes of a state, and what it answers.
-use Rattle.std.specs.Prelude.{ℕ, ◌==◌, List, [], ◌∷◌, length, if◌then◌else◌, Option, Some, None, Result, Ok, Err}
+use Rattle.std.specs.Prelude.{◌≡◌, ◌⊎◌, ℕ, true, ◌==◌, List, [], ◌∷◌, ◌++◌, length, if◌then◌else◌, Option, Some, None, Result, Ok, Err}
+use Rattle.std.specs.FinMap.{contains_key}
+use Rattle.std.specs.List.{All, IsDistinct}
 use Rattle.std.specs.Option.{option_and_then, option_map_or}
+use Rattle.std.specs.Str.{bytes_eq}
 use Rattle.mt_files.specs.Fresh.{all_faults}
 use Rattle.mt_files.specs.Reach.{reach}
 use Rattle.mt_files.specs.declared.build_fault.BuildFault.{BuildFault}
-use Rattle.mt_revision.specs.Contents.{revision_after}
+use Rattle.mt_revision.specs.Contents.{numbers_of, revision_after}
 use Rattle.mt_revision.specs.Logs.{Logged, Accepted, Denied}
-use Rattle.mt_revision.specs.Numberings.{extended}
+use Rattle.mt_revision.specs.Numberings.{extended, has_path}
+use Rattle.mt_revision.specs.Revisions.{WasMadeAfter}
 use Rattle.mt_revision.specs.declared.revision.Revision.{Revision}
 use Rattle.metro_program.specs.declared.state.NextBuild.{NextBuild}
 use Rattle.metro_program.specs.States.{State}
@@ -29,6 +33,19 @@ build_with s (fault ∷ faults) = Err fault
 -- the build of the files, or their first fault
 abbrev pub fresh_build : State → Result NextBuild BuildFault
 fresh_build s = build_with s (all_faults s.ask s.files)
+
+-- ---- each build
+
+-- what a build is, whoever found its modules: no number is given up or changed, those that get one are files, and each entry has one; and its revision is for development where the options are, starts the entries, comes after the latest one and counts all accepted changes
+pub record IsNext (s : State) (build : NextBuild) : Type 0 where
+  pub kept : (more : List (List ℕ)) × (build.numbering ≡ s.numbering ++ more)
+  pub numbered : (path : List ℕ) → has_path build.numbering path ≡ true → (has_path s.numbering path ≡ true) ⊎ (contains_key s.files path ≡ true)
+  pub distinct : IsDistinct bytes_eq build.numbering
+  pub entries : All (λ entry. has_path build.numbering entry ≡ true) s.ask.entries
+  pub starts : build.revision.entries ≡ numbers_of build.numbering s.ask.entries
+  pub made : WasMadeAfter s.latest build.revision
+  pub dev : build.revision.dev ≡ s.ask.options.dev
+  pub changes : build.revision.changes ≡ length s.journal
 
 -- ---- answers
 

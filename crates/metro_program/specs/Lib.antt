@@ -1,4 +1,4 @@
-pub mod Words
+pub mod Grow
 pub mod States
 pub mod StateCodes
 pub mod Builds

@@ -1,5 +1,5 @@
 -- How far a replay has come in its script.
-use Rattle.std.specs.Prelude.{◌≡◌, ◌≢◌, ◌≤◌, ◌++◌, ℕ, List, [], ◌∷◌, Option, Some, Result, Ok, Err}
+use Rattle.std.specs.Prelude.{◌≡◌, ◌≢◌, ◌≤◌, ◌++◌, ℕ, Bool, List, [], ◌∷◌, Option, Some, Result, Ok, Err}
 use Rattle.mt_io.specs.Causes.{Rose}
 use Rattle.mt_io.specs.Files.{Files}
 use Rattle.mt_io.specs.Seen.{Seen, Stopped, Tells, Wrote}
@@ -37,7 +37,7 @@ IsStopped failed done (Build ∷ rest) = (done ≡ []) × failed
 IsStopped failed done (command ∷ rest) = ⊥
 
 -- after a failed read, the lines of all commands that were read whole are written, up to a rescan that failed
-pub record HasLines (tree : Files) (ask : Ask) (files : Snapshot) (reading : Reading) (before after : Lent) : Type 0 where
+pub record HasLines (full : Bool) (tree : Files) (ask : Ask) (files : Snapshot) (reading : Reading) (before after : Lent) : Type 0 where
   pub read : List ℕ
   pub gave : Gave reading after.script.told read
   pub done : List Command
@@ -45,7 +45,7 @@ pub record HasLines (tree : Files) (ask : Ask) (files : Snapshot) (reading : Rea
   pub parts : Build ∷ (script_of read).commands ≡ done ++ rest
   pub now : History
   pub led : moved_by tree (unbuilt ask files) done ≡ Ok now
-  pub wrote : Wrote before.out after.out (lines_of now.answers)
+  pub wrote : Wrote before.out after.out (lines_of full now.answers)
   pub stopped : IsStopped (Rose before.folder.faults after.folder.faults) done rest
 
 -- a script ends so
@@ -54,17 +54,19 @@ pub record IsScriptFault (bytes : List ℕ) (outcome : Outcome) : Type 0 where
   pub ending : (script_of bytes).ending ≡ Some fault
   pub is : outcome ≡ script_outcome fault
 
--- what a run owes of a script that tells its reading
-pub record ReadsScript (ask : Ask) (before after : Lent) (outcome : Outcome) : Type 0 where
-  -- a failed read loses no line
-  pub lines : outcome ≡ ReadFailed → (tree : Files) (files : Snapshot) (reading : Reading) → Tells before.folder tree → crawled tree ≡ Ok files → Tells before.script reading → HasLines tree ask files reading before after
-  -- status 7 is the script's own fault, whatever the folder tells
-  pub cut : status_of outcome ≡ 7 → (reading : Reading) → Tells before.script reading → IsScriptFault reading.left outcome
+-- what a run owes of a script that tells its reading: a failed read loses no line
+pub record ReadsScript (full : Bool) (ask : Ask) (before after : Lent) (outcome : Outcome) : Type 0 where
+  pub lines : outcome ≡ ReadFailed → (tree : Files) (files : Snapshot) (reading : Reading) → Tells before.folder tree → crawled tree ≡ Ok files → Tells before.script reading → HasLines full tree ask files reading before after
+
+-- status 7 is the script's own fault, whatever the folder tells and the builds find
+pub record HasReason (reading : Reading) (outcome : Outcome) : Type 0 where
+  pub cut : status_of outcome ≡ 7 → IsScriptFault reading.left outcome
 
 -- ---- on the way
 
--- where a replay began
+-- where a replay began, and whether it is full
 pub record Start : Type 0 where
+  pub full : Bool
   pub ask : Ask
   pub files : Snapshot
   pub lent : Lent
@@ -74,22 +76,27 @@ pub record Start : Type 0 where
 pub record Leads (tree : Files) (start : Start) (done : List Command) (state : State) (out : Seen (List ℕ)) : Type 0 where
   pub answers : List Answer
   pub led : moved_by tree (unbuilt start.ask start.files) done ≡ Ok (record { state = state; answers = answers })
-  pub wrote : Wrote start.lent.out out (lines_of answers)
+  pub wrote : Wrote start.lent.out out (lines_of start.full answers)
 
 -- these commands, and then those of a script
 abbrev pub with_commands : List Command → Script → Script
 with_commands done script = record { commands = done ++ script.commands; ending = script.ending }
 
--- the first build and these commands of the script were done; the reader holds what was read of the next
-pub record HasDone (start : Start) (state : State) (reader : Progress) (script : Option Reading) (out : Seen (List ℕ)) : Type 0 where
+-- these commands of the script of a reading were read; the reader holds what was read of the next
+pub record HasRead (reading : Reading) (reader : Progress) (script : Option Reading) : Type 0 where
   pub read : List ℕ
-  pub gave : Gave start.reading script read
+  pub gave : Gave reading script read
   pub done : List Command
   pub left : (more : List ℕ) → script_of (read ++ more) ≡ with_commands done (script_from reader.count (reader.held ++ more))
-  pub leads : (tree : Files) → Tells start.lent.folder tree → Leads tree start (Build ∷ done) state out
 
--- a replay of this ask and these files begins with what it was lent
-pub record IsStart (start : Start) (ask : Ask) (files : Snapshot) (lent : Lent) : Type 0 where
+-- the first build and the commands that were read were done
+pub record HasDone (start : Start) (state : State) (reader : Progress) (script : Option Reading) (out : Seen (List ℕ)) : Type 0 where
+  pub has : HasRead start.reading reader script
+  pub leads : (tree : Files) → Tells start.lent.folder tree → Leads tree start (Build ∷ has.done) state out
+
+-- a replay of this ask and these files, full or not, begins with what it was lent
+pub record IsStart (start : Start) (full : Bool) (ask : Ask) (files : Snapshot) (lent : Lent) : Type 0 where
+  pub whole : start.full ≡ full
   pub asks : start.ask ≡ ask
   pub takes : start.files ≡ files
   pub folder : lent.folder.told ≡ start.lent.folder.told
@@ -98,21 +105,22 @@ pub record IsStart (start : Start) (ask : Ask) (files : Snapshot) (lent : Lent) 
   pub out : start.lent.out ≡ lent.out
 
 -- the first build was made, and nothing of the script was read
-pub record IsBegun (start : Start) (state : State) (lent : Lent) : Type 0 where
+pub record IsBegun (start : Start) (full : Bool) (state : State) (lent : Lent) : Type 0 where
+  pub whole : start.full ≡ full
   pub folder : lent.folder.told ≡ start.lent.folder.told
   pub faults : start.lent.folder.faults ≤ lent.folder.faults
   pub script : Tells lent.script start.reading
   pub leads : (tree : Files) → Tells start.lent.folder tree → Leads tree start (Build ∷ []) state lent.out
 
 -- a command led where it leads, and the lines of what it answers were written
-abbrev pub Went : Result Step Outcome → State → State → Seen (List ℕ) → Seen (List ℕ) → Type 0
-Went (Ok step) s now before after = (now ≡ step.state) × Wrote before after (lines_after s.latest step.answers)
-Went (Err outcome) s now before after = ⊥
+abbrev pub Went : Bool → Result Step Outcome → State → State → Seen (List ℕ) → Seen (List ℕ) → Type 0
+Went full (Ok step) s now before after = (now ≡ step.state) × Wrote before after (lines_after full s.latest step.answers)
+Went full (Err outcome) s now before after = ⊥
 
 -- a command ended the run: as it was to end, or by a fault, with a prefix of its lines
-abbrev pub Halted : Result Step Outcome → State → Outcome → Seen (List ℕ) → Seen (List ℕ) → Type 0
-Halted (Ok step) s outcome before after = (IsPlanned outcome → ⊥) × Stopped before after (lines_after s.latest step.answers)
-Halted (Err wanted) s outcome before after = (IsPlanned outcome → outcome ≡ wanted) × Wrote before after []
+abbrev pub Halted : Bool → Result Step Outcome → State → Outcome → Seen (List ℕ) → Seen (List ℕ) → Type 0
+Halted full (Ok step) s outcome before after = (IsPlanned outcome → ⊥) × Stopped before after (lines_after full s.latest step.answers)
+Halted full (Err wanted) s outcome before after = (IsPlanned outcome → outcome ≡ wanted) × Wrote before after []
 
 -- an outcome that neither the words nor the text of a script gives
 abbrev pub IsOwn : Outcome → Type 0
@@ -126,16 +134,19 @@ pub record Keeps (plan : Plan) (outcome : Outcome) (before after : Seen (List �
   pub written : IsPlanned outcome → Wrote before after plan.bytes
   pub begun : Stopped before after plan.bytes
 
--- a run that reads a folder once and no script: it keeps to the plan of the files, each fault has its cause, and what the output tells beside stays
-pub record Fulfils (plan : Plan) (outcome : Outcome) (before after : Seen (List ℕ)) : Type 0 where
-  pub keeps : Keeps plan outcome before after
+-- a run that writes and reads nothing: it fails at no read, a failed write has its cause, and what the output tells beside stays
+pub record OnlyWrites (outcome : Outcome) (before after : Seen (List ℕ)) : Type 0 where
   pub read : outcome ≢ ReadFailed
   pub write : outcome ≡ WriteFailed → Rose before.faults after.faults
   pub apart : after.beside ≡ before.beside
   pub own : IsOwn outcome
 
+-- a run that has read a folder: it keeps to the plan of the files, and only writes
+pub record Fulfils (plan : Plan) (outcome : Outcome) (before after : Seen (List ℕ)) : Type 0 where
+  pub keeps : Keeps plan outcome before after
+  pub only : OnlyWrites outcome before after
+
 -- what a replay owes from its start on
 pub record Ends (start : Start) (outcome : Outcome) (after : Lent) : Type 0 where
-  pub keeps : (tree : Files) → Tells start.lent.folder tree → Keeps (files_plan tree start.ask start.reading.left (Ok start.files)) outcome start.lent.out after.out
-  pub lines : outcome ≡ ReadFailed → (tree : Files) → Tells start.lent.folder tree → HasLines tree start.ask start.files start.reading start.lent after
-  pub cut : status_of outcome ≡ 7 → IsScriptFault start.reading.left outcome
+  pub keeps : (tree : Files) → Tells start.lent.folder tree → Keeps (files_plan start.full tree start.ask start.reading.left (Ok start.files)) outcome start.lent.out after.out
+  pub lines : outcome ≡ ReadFailed → (tree : Files) → Tells start.lent.folder tree → HasLines start.full tree start.ask start.files start.reading start.lent after

@@ -1,5 +1,5 @@
 -- What the plan of a replay says: which commands were done, and why it ended.
-use Rattle.std.specs.Prelude.{◌≡◌, ◌<◌, ◌⊎◌, ◌↔◌, ℕ, List, [], ◌∷◌, ◌++◌, length, Option, Some, None, Ok, Err}
+use Rattle.std.specs.Prelude.{◌≡◌, ◌<◌, ◌⊎◌, ◌↔◌, ℕ, Bool, List, [], ◌∷◌, ◌++◌, length, Option, Some, None, Ok, Err}
 use Rattle.std.specs.List.{All}
 use Rattle.std.specs.Option.{option_map_or}
 use Rattle.std.specs.Result.{result_err}
@@ -32,13 +32,13 @@ EndsAt tree fault now [] outcome = outcome ≡ option_map_or script_outcome faul
 EndsAt tree fault now (command ∷ rest) outcome = moved tree now.state command ≡ Err outcome
 
 -- the lines of a replay are those of what its builds answered, up to the command at which the run ended
-pub record IsReport (tree : Files) (ask : Ask) (files : Snapshot) (script : Script) (plan : Plan) : Type 0 where
+pub record IsReport (full : Bool) (tree : Files) (ask : Ask) (files : Snapshot) (script : Script) (plan : Plan) : Type 0 where
   pub done : List Command
   pub rest : List Command
   pub parts : Build ∷ script.commands ≡ done ++ rest
   pub now : History
   pub led : moved_by tree (unbuilt ask files) done ≡ Ok now
-  pub lines : plan.bytes ≡ lines_of now.answers
+  pub lines : plan.bytes ≡ lines_of full now.answers
   pub ends : EndsAt tree script.ending now rest plan.outcome
 
 -- ---- the last build
@@ -85,13 +85,13 @@ pub record IsWhole (tree : Files) (ask : Ask) (script : Script) (plan : Plan) : 
   pub led : moved_by tree (unbuilt ask files) (Build ∷ script.commands) ≡ Ok now
   pub last : IsLastBuild tree (unbuilt ask files) (Build ∷ script.commands) plan.outcome
 
--- what the plan of a replay says
-pub record Replays (ask : Ask) (tree : Files) (script : Script) (plan : Plan) : Type 0 where
+-- what the plan of a replay says, full or not
+pub record Replays (full : Bool) (ask : Ask) (tree : Files) (script : Script) (plan : Plan) : Type 0 where
   -- a folder without a snapshot ends the run at its first limit, and nothing is written
   pub limited : (fault : CrawlFault) → crawled tree ≡ Err fault → plan ≡ without_bytes (crawl_outcome fault)
   pub limit : (fault : CrawlFault) → crawled tree ≡ Err fault → status_of plan.outcome ≡ 6
   -- else the lines are those of what the builds answered
-  pub report : (files : Snapshot) → crawled tree ≡ Ok files → IsReport tree ask files script plan
+  pub report : (files : Snapshot) → crawled tree ≡ Ok files → IsReport full tree ask files script plan
   -- status 0 or 1 comes only of a whole run, and is that of its last build
   pub whole : status_of plan.outcome < 2 → IsWhole tree ask script plan
   -- a script that ends in `end` and meets no limit is carried out whole

@@ -28,12 +28,6 @@ opened ask files = record { ask = ask; files = files; journal = []; numbering = 
 
 -- ---- what holds in each state
 
--- entries of a build: 1 to 16, each once
-pub record AreEntries (entries : List (List ℕ)) : Type 0 where
-  pub some : 1 ≤ length entries
-  pub most : length entries ≤ 16
-  pub distinct : IsDistinct bytes_eq entries
-
 -- the latest revision is for development where the options are, counts no more changes than were accepted, and each revision before it counted fewer
 pub record IsLatest (state : State) (revision : Revision) : Type 0 where
   pub dev : revision.dev ≡ state.ask.options.dev

@@ -8,14 +8,15 @@ ghost use Rattle.mt_revision.specs.Revisions.{bundle_of};
 ghost use Rattle.metro_program.specs.Bundle.{bundle_plan};
 ghost use Rattle.metro_program.specs.First.{built_plan, snapshot_plan};
 ghost use Rattle.metro_program.specs.Lent.{lent};
-ghost use Rattle.metro_program.specs.Owes.{Owes};
-ghost use Rattle.metro_program.specs.Progress.{Fulfils, IsOwn};
+ghost use Rattle.metro_program.specs.Owes.{HasCauses, Owes};
+ghost use Rattle.metro_program.specs.Progress.{Fulfils, IsOwn, Keeps, OnlyWrites};
 
-use crate::ask::BuildAsk;
 use crate::state::{NextBuild, first_build};
 use mt_files::{FileMap, crawl};
+use mt_fresh::Explorer;
 use mt_io::{Folder, Sink};
 use mt_report::Outcome;
+use mt_request::BuildAsk;
 use mt_revision::write_bundle;
 use std::alloc::Global;
 
@@ -29,30 +30,42 @@ fn bundle_build<O: Sink>(build: &NextBuild, out: &mut O) -> Outcome
     }
 }
 
-/// Writes the bundle of the first build of a snapshot.
-fn bundle_files<O: Sink>(alloc: Global, ask: BuildAsk, files: FileMap, out: &mut O) -> Outcome
+/// Writes the bundle of the first build of what an explorer finds of a snapshot.
+fn bundle_files<X: Explorer, O: Sink>(
+    alloc: Global,
+    explorer: &mut X,
+    ask: BuildAsk,
+    files: FileMap,
+    out: &mut O,
+) -> Outcome
     requires few { map.len files ≤ max_files }
-    ensures fulfils { Fulfils (snapshot_plan bundle_of ask files) result (O.seen out.old) (O.seen out.new) }
+    ensures keeps { X.sure explorer.old → Keeps (snapshot_plan bundle_of ask files) result (O.seen out.old) (O.seen out.new) }
+    ensures only { OnlyWrites result (O.seen out.old) (O.seen out.new) }
+    ensures kept { X.sure explorer.old → X.sure explorer.new }
 {
-    match first_build(alloc, ask, files) {
+    match first_build(alloc, explorer, ask, files) {
         Ok(build) => bundle_build(&build, out),
         Err(fault) => Outcome::from(fault),
     }
 }
 
-/// Runs `bundle`: writes the bundle of what the folder has.
-pub fn run_bundle<F: Folder, O: Sink>(
+/// Runs `bundle`: writes the bundle of what an explorer finds in the folder.
+pub fn run_bundle<X: Explorer, F: Folder, O: Sink>(
     alloc: Global,
+    explorer: &mut X,
     ask: BuildAsk,
     folder: &mut F,
     out: &mut O,
 ) -> Outcome
-    ensures owes { (script : Seen Reading) → Owes (λ tree bytes. bundle_plan ask tree) false
+    ensures owes { X.sure explorer.old → (script : Seen Reading) → Owes (λ tree bytes. bundle_plan ask tree) false
+        (lent (F.seen folder.old) script (O.seen out.old)) (lent (F.seen folder.new) script (O.seen out.new)) result }
+    ensures causes { (script : Seen Reading) → HasCauses false
         (lent (F.seen folder.old) script (O.seen out.old)) (lent (F.seen folder.new) script (O.seen out.new)) result }
     ensures own { IsOwn result }
+    ensures kept { X.sure explorer.old → X.sure explorer.new }
 {
     match crawl(alloc, folder) {
-        Ok(files) => bundle_files(alloc, ask, files, out),
+        Ok(files) => bundle_files(alloc, explorer, ask, files, out),
         Err(fault) => Outcome::from(fault),
     }
 }

@@ -4,16 +4,16 @@ ghost use Rattle.mt_io.specs.Seen.{Seen};
 ghost use Rattle.mt_io.specs.Told.{Reading};
 ghost use Rattle.metro_program.specs.Check.{check_plan, checked_plan, found_plan};
 ghost use Rattle.metro_program.specs.Lent.{lent};
-ghost use Rattle.metro_program.specs.Owes.{Owes};
+ghost use Rattle.metro_program.specs.Owes.{HasCauses, Owes};
 ghost use Rattle.metro_program.specs.Progress.{Fulfils, IsOwn};
 
-use crate::ask::BuildAsk;
 use crate::ending::sent;
 use crate::graph::find_faults;
 use mt_files::{FileMap, crawl};
 use mt_fresh::AllFaults;
 use mt_io::{Folder, Sink};
 use mt_report::{Outcome, write_faults, write_ok};
+use mt_request::BuildAsk;
 use std::alloc::Global;
 
 /// Writes the lines of the faults that were found; where there are none, the line of files without a fault.
@@ -50,6 +50,8 @@ pub fn run_check<F: Folder, O: Sink>(
     out: &mut O,
 ) -> Outcome
     ensures owes { (script : Seen Reading) → Owes (λ tree bytes. check_plan ask tree) false
+        (lent (F.seen folder.old) script (O.seen out.old)) (lent (F.seen folder.new) script (O.seen out.new)) result }
+    ensures causes { (script : Seen Reading) → HasCauses false
         (lent (F.seen folder.old) script (O.seen out.old)) (lent (F.seen folder.new) script (O.seen out.new)) result }
     ensures own { IsOwn result }
 {

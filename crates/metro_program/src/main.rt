@@ -1,22 +1,22 @@
-//! The program `metro`: it bundles the JavaScript files of the folder in which it runs.
+//! The program `metro`: it bundles the JavaScript files of a folder.
 #![tactic(auto)]
 
-mod ask;
 mod build;
 mod bundle;
 mod check;
 mod deps;
 mod ending;
 mod graph;
-mod real;
+mod grow;
 mod replay;
 mod state;
 mod still;
-mod words;
 
+use mt_door::{NoStore, RealFolder, RealSink, RealSource};
 use mt_io::{FreeGate, send_all};
+use mt_request::{Request, read_request};
 use mt_tokens::Text;
-use real::{NoStore, RealFolder, RealSink, RealSource};
+use std::alloc::Global;
 use std::env;
 use std::io::{self, ErrorKind};
 use std::process::ExitCode;
@@ -29,6 +29,14 @@ fn command_words(rt: &HostRuntime) -> io::Result<Vec<Text>> {
         words.push(Text::from_string(word))?;
     }
     Ok(words)
+}
+
+/// The folder whose files the words ask for: the one in which the program runs where they name none.
+fn root_of(alloc: Global, words: &[Text]) -> Option<Text> {
+    match read_request(alloc, words) {
+        Ok(Request { root, .. }) => root,
+        Err(_) => None,
+    }
 }
 
 /// Runs over the real folder and streams. Words that cannot be read are answered as none; without memory for them
@@ -46,7 +54,12 @@ fn main(rt: HostRuntime) -> ExitCode {
             Vec::new(alloc)
         }
     };
-    let mut folder = RealFolder::new(&rt, ".");
+    let root = root_of(alloc, words.as_slice());
+    let root = match &root {
+        Some(root) => root.as_str(),
+        None => ".",
+    };
+    let mut folder = RealFolder::new(&rt, root);
     let mut script = RealSource::new(rt.stdin());
     let mut out = RealSink::new(rt.stdout());
     let status = metro_still(

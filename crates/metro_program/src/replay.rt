@@ -4,37 +4,41 @@ ghost use Rattle.std.specs.FinMap as map;
 ghost use Rattle.mt_io.specs.Causes.{Rose};
 ghost use Rattle.mt_io.specs.Files.{Files};
 ghost use Rattle.mt_io.specs.Seen.{Looks, Tells};
+ghost use Rattle.mt_io.specs.Told.{Reading};
 ghost use Rattle.mt_files.specs.Crawl.{max_files};
 ghost use Rattle.mt_report.specs.Outcomes.{IsBadWord};
 ghost use Rattle.mt_script.specs.Commands.{GoesOn, IsCommand};
 ghost use Rattle.metro_program.specs.Commands.{moved};
 ghost use Rattle.metro_program.specs.Lent.{lent};
-ghost use Rattle.metro_program.specs.Owes.{Owes};
-ghost use Rattle.metro_program.specs.Progress.{Ends, Halted, HasDone, IsBegun, IsOwn, IsStart, ReadsScript, Start, Went};
+ghost use Rattle.metro_program.specs.Owes.{HasCauses, Owes};
+ghost use Rattle.metro_program.specs.Progress.{Ends, Halted, HasDone, HasRead, HasReason, IsBegun, IsOwn, IsStart, ReadsScript, Start, Went};
 ghost use Rattle.metro_program.specs.Replay.{replay_plan};
 
-use crate::ask::BuildAsk;
 use crate::build::build;
 use crate::state::ReplayState;
 use mt_files::{Change, FileMap, crawl};
+use mt_fresh::Explorer;
 use mt_io::{Folder, Sink, Source};
 use mt_report::Outcome;
+use mt_request::BuildAsk;
 use mt_script::{Command, MAX_COMMANDS, ScriptReader};
 use std::alloc::Global;
 
 /// Carries out a command. An `Err` says how the run ends.
-fn carry_out<F: Folder, O: Sink>(
+fn carry_out<X: Explorer, F: Folder, O: Sink>(
     alloc: Global,
+    explorer: &mut X,
+    full: bool,
     state: &mut ReplayState,
     folder: &mut F,
     command: Command,
     out: &mut O,
 ) -> Result<(), Outcome>
     requires command { IsCommand command }
-    ensures went { (tree : Files) → Tells (F.seen folder.old) tree
-        → OnOk result (Went (moved tree state.old command) state.old state.new (O.seen out.old) (O.seen out.new)) }
-    ensures halted { (tree : Files) → Tells (F.seen folder.old) tree
-        → IfErr result (λ outcome. Halted (moved tree state.old command) state.old outcome (O.seen out.old) (O.seen out.new)) }
+    ensures went { X.sure explorer.old → (tree : Files) → Tells (F.seen folder.old) tree
+        → OnOk result (Went full (moved tree state.old command) state.old state.new (O.seen out.old) (O.seen out.new)) }
+    ensures halted { X.sure explorer.old → (tree : Files) → Tells (F.seen folder.old) tree
+        → IfErr result (λ outcome. Halted full (moved tree state.old command) state.old outcome (O.seen out.old) (O.seen out.new)) }
     ensures read { IfErr result (λ outcome. outcome ≡ Outcome.ReadFailed
         → (command ≡ Command.Rescan) × Rose (F.seen folder.old).faults (F.seen folder.new).faults × (O.seen out.new ≡ O.seen out.old)) }
     ensures write { IfErr result (λ outcome. outcome ≡ Outcome.WriteFailed → Rose (O.seen out.old).faults (O.seen out.new).faults) }
@@ -43,19 +47,23 @@ fn carry_out<F: Folder, O: Sink>(
     ensures folder { Looks (F.seen folder.old) (F.seen folder.new) ⊥ }
     ensures out_later { (O.seen out.old).faults ≤ (O.seen out.new).faults }
     ensures out_apart { (O.seen out.new).beside ≡ (O.seen out.old).beside }
+    ensures kept { X.sure explorer.old → X.sure explorer.new }
 {
     match command {
         Command::Put(path, bytes) => state.put(alloc, path, bytes),
         Command::Del(path) => state.change(Change::Del(path)),
         Command::Rescan => state.rescan(alloc, folder),
-        Command::Build => build(alloc, state, out).map_err(Outcome::from),
+        Command::Build => build(alloc, explorer, full, state, out).map_err(Outcome::from),
         Command::End => Err(state.end()),
     }
 }
 
 /// Reads the next command and carries it out. An `Err` says how the run ends.
-fn turn<F: Folder, I: Source, O: Sink>(
+#[allow(clippy::too_many_arguments)]
+fn turn<X: Explorer, F: Folder, I: Source, O: Sink>(
     alloc: Global,
+    explorer: &mut X,
+    full: bool,
     state: &mut ReplayState,
     reader: &mut ScriptReader,
     folder: &mut F,
@@ -63,13 +71,16 @@ fn turn<F: Folder, I: Source, O: Sink>(
     out: &mut O,
 ) -> Result<(), Outcome>
     requires going { reader.old.fault ≡ None }
-    ensures on { (start : Start) → (F.seen folder.old).told ≡ start.lent.folder.told
+    ensures on { X.sure explorer.old → (start : Start) → start.full ≡ full → (F.seen folder.old).told ≡ start.lent.folder.told
         → HasDone start state.old reader.old (I.seen script.old).told (O.seen out.old)
         → OnOk result (HasDone start state.new reader.new (I.seen script.new).told (O.seen out.new)) }
-    ensures ends { (start : Start) → (F.seen folder.old).told ≡ start.lent.folder.told
+    ensures ends { X.sure explorer.old → (start : Start) → start.full ≡ full → (F.seen folder.old).told ≡ start.lent.folder.told
         → start.lent.folder.faults ≤ (F.seen folder.old).faults
         → HasDone start state.old reader.old (I.seen script.old).told (O.seen out.old)
         → IfErr result (λ outcome. Ends start outcome (lent (F.seen folder.new) (I.seen script.new) (O.seen out.new))) }
+    ensures has { (reading : Reading) → HasRead reading reader.old (I.seen script.old).told
+        → OnOk result (HasRead reading reader.new (I.seen script.new).told) }
+    ensures reason { (reading : Reading) → HasRead reading reader.old (I.seen script.old).told → IfErr result (HasReason reading) }
     ensures going { OnOk result (reader.new.fault ≡ None) }
     ensures counted { OnOk result (reader.new.count ≡ reader.old.count + 1) }
     ensures read { IfErr result (λ outcome. outcome ≡ Outcome.ReadFailed
@@ -81,23 +92,27 @@ fn turn<F: Folder, I: Source, O: Sink>(
     ensures script_apart { (I.seen script.new).beside ≡ (I.seen script.old).beside }
     ensures out_later { (O.seen out.old).faults ≤ (O.seen out.new).faults }
     ensures out_apart { (O.seen out.new).beside ≡ (O.seen out.old).beside }
+    ensures kept { X.sure explorer.old → X.sure explorer.new }
 {
     match reader.next(script) {
-        Ok(command) => carry_out(alloc, state, folder, command, out),
+        Ok(command) => carry_out(alloc, explorer, full, state, folder, command, out),
         Err(fault) => Err(Outcome::from(fault)),
     }
 }
 
 /// Carries out the commands of a script.
-fn run_script<F: Folder, I: Source, O: Sink>(
+fn run_script<X: Explorer, F: Folder, I: Source, O: Sink>(
     alloc: Global,
+    explorer: &mut X,
+    full: bool,
     state: ReplayState,
     folder: &mut F,
     script: &mut I,
     out: &mut O,
 ) -> Outcome
-    ensures ends { (start : Start) → IsBegun start state (lent (F.seen folder.old) (I.seen script.old) (O.seen out.old))
+    ensures ends { X.sure explorer.old → (start : Start) → IsBegun start full state (lent (F.seen folder.old) (I.seen script.old) (O.seen out.old))
         → Ends start result (lent (F.seen folder.new) (I.seen script.new) (O.seen out.new)) }
+    ensures reason { (reading : Reading) → Tells (I.seen script.old) reading → HasReason reading result }
     ensures read { result ≡ Outcome.ReadFailed → Rose (F.seen folder.old).faults (F.seen folder.new).faults
         ⊎ Rose (I.seen script.old).faults (I.seen script.new).faults }
     ensures write { result ≡ Outcome.WriteFailed → Rose (O.seen out.old).faults (O.seen out.new).faults }
@@ -106,13 +121,23 @@ fn run_script<F: Folder, I: Source, O: Sink>(
     ensures script_apart { (I.seen script.new).beside ≡ (I.seen script.old).beside }
     ensures out_later { (O.seen out.old).faults ≤ (O.seen out.new).faults }
     ensures out_apart { (O.seen out.new).beside ≡ (O.seen out.old).beside }
+    ensures kept { X.sure explorer.old → X.sure explorer.new }
 {
     let mut state = state;
     let Ok(mut reader) = ScriptReader::new(alloc) else {
         return Outcome::NoMemory;
     };
     for _turn in 0..=MAX_COMMANDS {
-        if let Err(outcome) = turn(alloc, &mut state, &mut reader, folder, script, out) {
+        if let Err(outcome) = turn(
+            alloc,
+            explorer,
+            full,
+            &mut state,
+            &mut reader,
+            folder,
+            script,
+            out,
+        ) {
             return outcome;
         }
     }
@@ -121,17 +146,21 @@ fn run_script<F: Folder, I: Source, O: Sink>(
 }
 
 /// Replays a script over a snapshot: it begins with a build.
-fn replay_files<F: Folder, I: Source, O: Sink>(
+#[allow(clippy::too_many_arguments)]
+fn replay_files<X: Explorer, F: Folder, I: Source, O: Sink>(
     alloc: Global,
+    explorer: &mut X,
     ask: BuildAsk,
+    full: bool,
     files: FileMap,
     folder: &mut F,
     script: &mut I,
     out: &mut O,
 ) -> Outcome
     requires few { map.len files ≤ max_files }
-    ensures ends { (start : Start) → IsStart start ask files (lent (F.seen folder.old) (I.seen script.old) (O.seen out.old))
+    ensures ends { X.sure explorer.old → (start : Start) → IsStart start full ask files (lent (F.seen folder.old) (I.seen script.old) (O.seen out.old))
         → Ends start result (lent (F.seen folder.new) (I.seen script.new) (O.seen out.new)) }
+    ensures reason { (reading : Reading) → Tells (I.seen script.old) reading → HasReason reading result }
     ensures read { result ≡ Outcome.ReadFailed → Rose (F.seen folder.old).faults (F.seen folder.new).faults
         ⊎ Rose (I.seen script.old).faults (I.seen script.new).faults }
     ensures write { result ≡ Outcome.WriteFailed → Rose (O.seen out.old).faults (O.seen out.new).faults }
@@ -139,30 +168,40 @@ fn replay_files<F: Folder, I: Source, O: Sink>(
     ensures folder { Looks (F.seen folder.old) (F.seen folder.new) ⊥ }
     ensures script_apart { (I.seen script.new).beside ≡ (I.seen script.old).beside }
     ensures out_apart { (O.seen out.new).beside ≡ (O.seen out.old).beside }
+    ensures kept { X.sure explorer.old → X.sure explorer.new }
 {
     let mut state = ReplayState::new(alloc, ask, files);
-    match build(alloc, &mut state, out) {
-        Ok(()) => run_script(alloc, state, folder, script, out),
+    match build(alloc, explorer, full, &mut state, out) {
+        Ok(()) => run_script(alloc, explorer, full, state, folder, script, out),
         Err(trouble) => Outcome::from(trouble),
     }
 }
 
-/// Runs `replay`: builds what the folder has, and then carries out the commands of the script, up to `end`.
-pub fn run_replay<F: Folder, I: Source, O: Sink>(
+/// Runs `replay`: builds what the folder has, and then carries out the commands of the script, up to `end`. In a full replay
+/// the bundle of each revision follows its line.
+pub fn run_replay<X: Explorer, F: Folder, I: Source, O: Sink>(
     alloc: Global,
+    explorer: &mut X,
     ask: BuildAsk,
+    full: bool,
     folder: &mut F,
     script: &mut I,
     out: &mut O,
 ) -> Outcome
-    ensures owes { Owes (replay_plan ask) true (lent (F.seen folder.old) (I.seen script.old) (O.seen out.old))
+    ensures owes { X.sure explorer.old → Owes (replay_plan full ask) true
+        (lent (F.seen folder.old) (I.seen script.old) (O.seen out.old))
         (lent (F.seen folder.new) (I.seen script.new) (O.seen out.new)) result }
+    ensures script { X.sure explorer.old → ReadsScript full ask
+        (lent (F.seen folder.old) (I.seen script.old) (O.seen out.old))
+        (lent (F.seen folder.new) (I.seen script.new) (O.seen out.new)) result }
+    ensures causes { HasCauses true (lent (F.seen folder.old) (I.seen script.old) (O.seen out.old))
+        (lent (F.seen folder.new) (I.seen script.new) (O.seen out.new)) result }
+    ensures reason { (reading : Reading) → Tells (I.seen script.old) reading → HasReason reading result }
     ensures word { IsBadWord result → ⊥ }
-    ensures script { ReadsScript ask (lent (F.seen folder.old) (I.seen script.old) (O.seen out.old))
-        (lent (F.seen folder.new) (I.seen script.new) (O.seen out.new)) result }
+    ensures kept { X.sure explorer.old → X.sure explorer.new }
 {
     match crawl(alloc, folder) {
-        Ok(files) => replay_files(alloc, ask, files, folder, script, out),
+        Ok(files) => replay_files(alloc, explorer, ask, full, files, folder, script, out),
         Err(fault) => Outcome::from(fault),
     }
 }

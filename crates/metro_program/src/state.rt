@@ -8,20 +8,21 @@ ghost use Rattle.mt_files.specs.Crawl.{entry_of, max_files};
 ghost use Rattle.mt_files.specs.Rescans.{rescanned};
 ghost use Rattle.mt_files.specs.declared.change.Change.TheVariants as change;
 ghost use Rattle.mt_tokens.specs.Sources.{max_source_bytes};
+ghost use Rattle.mt_fresh.specs.JudgedGraphs.{IsGraphOf};
 ghost use Rattle.mt_graph.specs.Graphs.{fresh_graph};
-ghost use Rattle.metro_program.specs.Builds.{fresh_build, next_build, same_number, with_build, with_refusal};
+ghost use Rattle.metro_program.specs.Builds.{IsNext, fresh_build, next_build, same_number, with_build, with_refusal};
 ghost use Rattle.metro_program.specs.Commands.{changed, changed_by, outcome_of, rescanned_by};
-ghost use Rattle.metro_program.specs.States.{AreEntries, opened};
+ghost use Rattle.metro_program.specs.States.{opened};
 ghost use Rattle.metro_program.specs.Moves.{IsLimited, IsMove};
 
-use crate::ask::BuildAsk;
 use crate::graph::build_graph;
 use mt_files::{BuildFault, Change, ChangeList, Entry, FileMap, Journal, rescan};
-use mt_fresh::revision_of_graph;
+use mt_fresh::{Explorer, revision_of_graph};
 use mt_graph::Graph;
 use mt_io::Folder;
 use mt_path::Path;
 use mt_report::Outcome;
+use mt_request::BuildAsk;
 use mt_revision::{Numbering, Revision};
 use mt_tokens::{Bytes, Shared};
 use std::alloc::{AllocError, Global};
@@ -85,6 +86,13 @@ impl ReplayState {
         ensures changes { result ≡ length self.now.journal }
     {
         self.journal.len()
+    }
+
+    /// How many paths have numbers.
+    pub fn numbered(&self) -> u32
+        ensures numbered { result ≡ length self.now.numbering }
+    {
+        self.numbering.len()
     }
 
     /// The latest revision, if a build was accepted.
@@ -168,9 +176,10 @@ impl ReplayState {
 
     /// The build of a graph of the files: numbers its paths, and makes the next revision of it.
     fn build_of(&self, alloc: Global, graph: Graph) -> Result<NextBuild, AllocError>
-        requires graph { fresh_graph self.now.ask self.now.files ≡ Ok graph }
+        requires graph { IsGraphOf self.now.ask self.now.files graph }
         requires new { same_number self.now ≡ None }
-        ensures exact { IfOk result (λ build. build ≡ next_build self.now) }
+        ensures next { IfOk result (IsNext self.now) }
+        ensures exact { fresh_graph self.now.ask self.now.files ≡ Ok graph → IfOk result (λ build. build ≡ next_build self.now) }
     {
         let changes = self.journal.len() as u32;
         let numbering = self.numbering.extend(self.ask.entries(), &graph)?;
@@ -189,23 +198,27 @@ impl ReplayState {
         })
     }
 
-    /// The build of the files, or their first fault.
-    pub fn build(&self, alloc: Global) -> Result<NextBuild, BuildFault>
+    /// The build of what an explorer finds of the files, or the first fault: of the files, where the explorer is sure.
+    pub fn build<X: Explorer>(
+        &self,
+        alloc: Global,
+        explorer: &mut X,
+    ) -> Result<NextBuild, BuildFault>
         requires new { same_number self.now ≡ None }
-        ensures exact { (result ≡ Err BuildFault.NoMemory) ⊎ (result ≡ fresh_build self.now) }
-        ensures entries { AreEntries self.now.ask.entries }
+        ensures exact { X.sure explorer.old → (result ≡ Err BuildFault.NoMemory) ⊎ (result ≡ fresh_build self.now) }
+        ensures next { IfOk result (IsNext self.now) }
+        ensures kept { X.sure explorer.old → X.sure explorer.new }
     {
-        match build_graph(alloc, &self.ask, &self.files) {
+        match build_graph(alloc, explorer, &self.ask, &self.files) {
             Ok(graph) => Ok(self.build_of(alloc, graph)?),
             Err(fault) => Err(fault),
         }
     }
 
-    /// Keeps what a build of the files gave.
+    /// Keeps what a build gave.
     pub fn accept(&mut self, build: NextBuild)
-        requires build { fresh_build self.old ≡ Ok build }
+        requires next { IsNext self.old build }
         requires new { same_number self.old ≡ None }
-        requires entries { AreEntries self.old.ask.entries }
         ensures exact { self.new ≡ with_build self.old build }
     {
         let NextBuild {
@@ -235,13 +248,20 @@ impl ReplayState {
     }
 }
 
-/// The first build of a snapshot, or its first fault.
-pub fn first_build(alloc: Global, ask: BuildAsk, files: FileMap) -> Result<NextBuild, BuildFault>
+/// The first build of what an explorer finds of a snapshot, or the first fault: of the snapshot, where the explorer is sure.
+pub fn first_build<X: Explorer>(
+    alloc: Global,
+    explorer: &mut X,
+    ask: BuildAsk,
+    files: FileMap,
+) -> Result<NextBuild, BuildFault>
     requires few { map.len files ≤ max_files }
-    ensures exact { (result ≡ Err BuildFault.NoMemory) ⊎ (result ≡ fresh_build (opened ask files)) }
+    ensures exact { X.sure explorer.old → (result ≡ Err BuildFault.NoMemory) ⊎ (result ≡ fresh_build (opened ask files)) }
+    ensures next { IfOk result (IsNext (opened ask files)) }
+    ensures kept { X.sure explorer.old → X.sure explorer.new }
 {
     let state = ReplayState::new(alloc, ask, files);
-    state.build(alloc)
+    state.build(alloc, explorer)
 }
 
 /// What is kept of a file of this path and these bytes.

@@ -1,73 +1,103 @@
 //! The commands that run over objects that are handed in.
 ghost use Rattle.std.specs.Prelude.{◌≡◌, ◌⊎◌, ℕ, List, false, IsErr, Ok};
 ghost use Rattle.mt_io.specs.Files.{Files};
-ghost use Rattle.mt_files.specs.Asks.{Ask};
+ghost use Rattle.mt_request.specs.Growths.{IsBounded};
+ghost use Rattle.mt_request.specs.Requests.{request_of};
+ghost use Rattle.mt_request.specs.declared.request.Request.{Request};
 ghost use Rattle.mt_script.specs.Scripts.{script_of};
-ghost use Rattle.metro_program.specs.Words.{words_of};
 ghost use Rattle.metro_program.specs.Bundle.{Bundles};
 ghost use Rattle.metro_program.specs.Check.{Checks};
 ghost use Rattle.metro_program.specs.Deps.{PrintsGraph};
-ghost use Rattle.metro_program.specs.Owes.{Comes, Owes, Runs};
-ghost use Rattle.metro_program.specs.Progress.{ReadsScript};
+ghost use Rattle.metro_program.specs.Owes.{Comes, HasCauses, Owes, Runs};
+ghost use Rattle.metro_program.specs.Progress.{HasReason, ReadsScript};
 ghost use Rattle.metro_program.specs.Replays.{Replays};
-ghost use Rattle.metro_program.specs.Still.{words_plan, words_read};
+ghost use Rattle.metro_program.specs.Still.{word_outcome, words_plan, words_read};
 ghost use Rattle.mt_report.specs.Outcomes.{IsBadWord, line_of};
-ghost use Rattle.mt_io.specs.Seen.{Wrote};
+ghost use Rattle.mt_io.specs.Seen.{Tells, Wrote};
+ghost use Rattle.mt_io.specs.Told.{Reading};
 ghost use Rattle.metro_program.specs.Lent.{Stood, lent};
 
 use crate::bundle::run_bundle;
 use crate::check::run_check;
 use crate::deps::run_deps;
+use crate::grow::run_grow;
 use crate::replay::run_replay;
-use crate::words::{Action, Request, read_words};
+use mt_fresh::{Explorer, Traversal};
 use mt_io::{Folder, Gate, Sink, Source, Store, send_all};
 use mt_report::Outcome;
+use mt_request::{Action, Request, WordFault, read_request};
 use mt_tokens::Text;
 use std::alloc::Global;
 use std::thread::Threads;
 
 /// Runs what is asked for.
-fn run<F: Folder, I: Source, O: Sink>(
+fn run<X: Explorer, F: Folder, I: Source, O: Sink>(
     alloc: Global,
+    explorer: &mut X,
     request: Request,
     folder: &mut F,
     script: &mut I,
     out: &mut O,
 ) -> Outcome
-    ensures owes { Owes (words_plan (Ok request)) (words_read (Ok request))
+    requires bounded { IsBounded request.action }
+    ensures owes { X.sure explorer.old → Owes (words_plan (Ok request)) (words_read (Ok request))
         (lent (F.seen folder.old) (I.seen script.old) (O.seen out.old))
         (lent (F.seen folder.new) (I.seen script.new) (O.seen out.new)) result }
-    ensures script { request.action ≡ Action.Replay → ReadsScript request.ask
+    ensures script { X.sure explorer.old → request.action ≡ Action.Replay → ReadsScript request.full request.ask
         (lent (F.seen folder.old) (I.seen script.old) (O.seen out.old))
         (lent (F.seen folder.new) (I.seen script.new) (O.seen out.new)) result }
+    ensures causes { HasCauses (words_read (Ok request))
+        (lent (F.seen folder.old) (I.seen script.old) (O.seen out.old))
+        (lent (F.seen folder.new) (I.seen script.new) (O.seen out.new)) result }
+    ensures reason { request.action ≡ Action.Replay → (reading : Reading) → Tells (I.seen script.old) reading → HasReason reading result }
     ensures unasked { words_read (Ok request) ≡ false → script.new ≡ script.old }
     ensures word { IsBadWord result → ⊥ }
+    ensures kept { X.sure explorer.old → X.sure explorer.new }
 {
-    let Request { action, ask } = request;
+    let Request {
+        action,
+        ask,
+        full,
+        ..
+    } = request;
     match action {
-        Action::Bundle => run_bundle(alloc, ask, folder, out),
-        Action::Deps => run_deps(alloc, ask, folder, out),
+        Action::Bundle => run_bundle(alloc, explorer, ask, folder, out),
+        Action::Deps => run_deps(alloc, explorer, ask, folder, out),
         Action::Check => run_check(alloc, ask, folder, out),
-        Action::Replay => run_replay(alloc, ask, folder, script, out),
+        Action::Replay => run_replay(alloc, explorer, ask, full, folder, script, out),
+        Action::Grow(growth) => run_grow(alloc, explorer, ask, growth, out),
+    }
+}
+
+/// How a run ends where the words ask for nothing.
+fn word_outcome(fault: WordFault) -> Outcome
+    ensures outcome { result ≡ word_outcome fault }
+{
+    match fault {
+        WordFault::BadWord(at) => Outcome::BadWord(at),
+        WordFault::NoMemory => Outcome::NoMemory,
     }
 }
 
 /// Runs what the words ask for.
-fn run_words<F: Folder, I: Source, O: Sink>(
+fn run_words<X: Explorer, F: Folder, I: Source, O: Sink>(
     alloc: Global,
+    explorer: &mut X,
     words: &[Text],
     folder: &mut F,
     script: &mut I,
     out: &mut O,
 ) -> Outcome
-    ensures comes { Comes (words_of words.now) (lent (F.seen folder.old) (I.seen script.old) (O.seen out.old))
+    ensures comes { Comes (X.sure explorer.old) (request_of words.now)
+        (lent (F.seen folder.old) (I.seen script.old) (O.seen out.old))
         (lent (F.seen folder.new) (I.seen script.new) (O.seen out.new)) result }
-    ensures unread { IsErr (words_of words.now) → (folder.new ≡ folder.old) × (out.new ≡ out.old) }
-    ensures unasked { words_read (words_of words.now) ≡ false → script.new ≡ script.old }
+    ensures unread { IsErr (request_of words.now) → (folder.new ≡ folder.old) × (out.new ≡ out.old) }
+    ensures unasked { words_read (request_of words.now) ≡ false → script.new ≡ script.old }
+    ensures kept { X.sure explorer.old → X.sure explorer.new }
 {
-    match read_words(alloc, words) {
-        Ok(request) => run(alloc, request, folder, script, out),
-        Err(fault) => Outcome::from(fault),
+    match read_request(alloc, words) {
+        Ok(request) => run(alloc, explorer, request, folder, script, out),
+        Err(fault) => word_outcome(fault),
     }
 }
 
@@ -116,29 +146,29 @@ pub fn metro_still<
     log: &mut E,
     _gate: &G,
 ) -> u8
-    // What is asked for is done, and each answer has its reason.
-    ensures run { Runs (words_of words.now) (lent (F.seen folder.old) (I.seen script.old) (O.seen out.old))
+    // What is asked for is done, and each answer has its reason. The explorer is sure.
+    ensures run { Runs (Unit {0}) (request_of words.now) (lent (F.seen folder.old) (I.seen script.old) (O.seen out.old))
         (lent (F.seen folder.new) (I.seen script.new) (O.seen out.new)) (E.seen log.old) (E.seen log.new) result }
 
     // What the plans of the commands say.
-    ensures bundle { (ask : Ask) (tree : Files) (bytes : List ℕ)
-        → words_of words.now ≡ Ok (record { action = Action.Bundle; ask = ask })
-        → Bundles ask tree (words_plan (words_of words.now) tree bytes) }
-    ensures deps { (ask : Ask) (tree : Files) (bytes : List ℕ)
-        → words_of words.now ≡ Ok (record { action = Action.Deps; ask = ask })
-        → PrintsGraph ask tree (words_plan (words_of words.now) tree bytes) }
-    ensures check { (ask : Ask) (tree : Files) (bytes : List ℕ)
-        → words_of words.now ≡ Ok (record { action = Action.Check; ask = ask })
-        → Checks ask tree (words_plan (words_of words.now) tree bytes) }
-    ensures replay { (ask : Ask) (tree : Files) (bytes : List ℕ)
-        → words_of words.now ≡ Ok (record { action = Action.Replay; ask = ask })
-        → Replays ask tree (script_of bytes) (words_plan (words_of words.now) tree bytes) }
+    ensures bundle { (request : Request) (tree : Files) (bytes : List ℕ)
+        → request_of words.now ≡ Ok request → request.action ≡ Action.Bundle
+        → Bundles request.ask tree (words_plan (request_of words.now) tree bytes) }
+    ensures deps { (request : Request) (tree : Files) (bytes : List ℕ)
+        → request_of words.now ≡ Ok request → request.action ≡ Action.Deps
+        → PrintsGraph request.ask tree (words_plan (request_of words.now) tree bytes) }
+    ensures check { (request : Request) (tree : Files) (bytes : List ℕ)
+        → request_of words.now ≡ Ok request → request.action ≡ Action.Check
+        → Checks request.ask tree (words_plan (request_of words.now) tree bytes) }
+    ensures replay { (request : Request) (tree : Files) (bytes : List ℕ)
+        → request_of words.now ≡ Ok request → request.action ≡ Action.Replay
+        → Replays request.full request.ask tree (script_of bytes) (words_plan (request_of words.now) tree bytes) }
 
     // Where the words ask for nothing, nothing is read and nothing is written to the output. A script that they don't ask
     // for isn't read.
-    ensures unread { IsErr (words_of words.now) → (folder.new ≡ folder.old) × (out.new ≡ out.old) }
-    ensures unasked { words_read (words_of words.now) ≡ false → script.new ≡ script.old }
+    ensures unread { IsErr (request_of words.now) → (folder.new ≡ folder.old) × (out.new ≡ out.old) }
+    ensures unasked { words_read (request_of words.now) ≡ false → script.new ≡ script.old }
 {
-    let outcome = run_words(alloc, words, folder, script, out);
+    let outcome = run_words(alloc, &mut Traversal, words, folder, script, out);
     tell(alloc, outcome, log).status()
 }

@@ -2,3 +2,4 @@ pub mod Visits
 pub mod Calls
 pub mod FreshGraph
 pub mod GraphRevisions
+pub mod JudgedGraphs

@@ -1,3 +1,4 @@
 pub mod Visits
 pub mod GraphRevisions
 pub mod Calls
+pub mod JudgedGraphs

@@ -9,9 +9,10 @@ ghost use Rattle.std.specs.Str.{bytes_eq};
 ghost use Rattle.mt_files.specs.Snapshots.{has_source};
 ghost use Rattle.mt_files.specs.Fresh.{all_faults, max_modules};
 ghost use Rattle.mt_files.specs.Reach.{reach};
-ghost use Rattle.mt_graph.specs.Explored.{explored};
+ghost use Rattle.mt_graph.specs.Explored.{IsExploration, explored};
 ghost use Rattle.mt_graph.specs.Founds.{paths_of};
 ghost use Rattle.mt_graph.specs.Graphs.{fresh_graph};
+ghost use Rattle.mt_fresh.specs.JudgedGraphs.{IsGraphOf};
 ghost use Rattle.mt_fresh.specs.Calls.{calls_in, calls_made, dynamic_calls};
 
 use crate::traversal::Traversal;
@@ -36,24 +37,47 @@ fn sources_among(alloc: Global, files: &FileMap, entries: &[Path]) -> Result<Pat
     Ok(sources)
 }
 
-/// What the entries that are sources lead to.
-fn explore_entries(
+/// What an explorer finds from the entries that are sources.
+fn explore_entries<X: Explorer>(
     alloc: Global,
+    explorer: &mut X,
     files: &FileMap,
     options: &Options,
     entries: &[Path],
 ) -> Result<FoundList, AllocError>
-    ensures exact { IfOk result (λ founds. founds ≡ explored options.now files.now (filter (has_source files.now) entries.now) map.empty) }
-    ensures ascending { IfOk result (λ founds. IsStrictlySortedBy (slice_cmp nat_cmp) (paths_of founds)) }
+    ensures exact { X.sure explorer.old → IfOk result (λ founds. founds ≡ explored options.now files.now (filter (has_source files.now) entries.now) map.empty) }
+    ensures whole { IfOk result (IsExploration options.now files.now (filter (has_source files.now) entries.now) map.empty) }
+    ensures kept { X.sure explorer.old → X.sure explorer.new }
 {
     let sources = sources_among(alloc, files, entries)?;
-    Traversal.explore(
+    explorer.explore(
         alloc,
         files,
         options,
         sources.as_slice(),
         &PathSet::new(alloc),
     )
+}
+
+/// The graph of a snapshot from its entries, or its first fault, by what an explorer finds: too many modules, or else the
+/// fault with the least path and place among the missing entries and the faults of the modules reached. Where the explorer
+/// is sure it is the fresh graph. Else its modules are still sources, and the entries are among them.
+pub fn traverse_by<X: Explorer>(
+    alloc: Global,
+    explorer: &mut X,
+    files: &FileMap,
+    options: &Options,
+    entries: &[Path],
+) -> Result<Graph, BuildFault>
+    requires some { 1 ≤ length entries.now }
+    requires most { length entries.now ≤ 16 }
+    requires distinct { IsDistinct bytes_eq entries.now }
+    ensures exact { X.sure explorer.old → (result ≡ Err BuildFault.NoMemory) ⊎ (result ≡ fresh_graph (record { options = options.now; entries = entries.now }) files.now) }
+    ensures graph { IfOk result (IsGraphOf (record { options = options.now; entries = entries.now }) files.now) }
+    ensures kept { X.sure explorer.old → X.sure explorer.new }
+{
+    let founds = explore_entries(alloc, explorer, files, options, entries)?;
+    judge(alloc, entries, founds)
 }
 
 /// The fresh graph of a snapshot from its entries, or its first fault: too many modules, or else the fault with the
@@ -69,8 +93,7 @@ pub fn traverse(
     requires distinct { IsDistinct bytes_eq entries.now }
     ensures exact { (result ≡ Err BuildFault.NoMemory) ⊎ (result ≡ fresh_graph (record { options = options.now; entries = entries.now }) files.now) }
 {
-    let founds = explore_entries(alloc, files, options, entries)?;
-    judge(alloc, entries, founds)
+    traverse_by(alloc, &mut Traversal, files, options, entries)
 }
 
 /// How many calls of what a source became name what only a run can tell: none after a refusal.
@@ -131,7 +154,7 @@ pub fn faults(
     ensures modules { IfOk result (λ faults. faults.modules ≡ length (reach (record { options = options.now; entries = entries.now }) files.now)) }
     ensures calls { IfOk result (λ faults. faults.modules ≤ max_modules → faults.calls ≡ dynamic_calls (record { options = options.now; entries = entries.now }) files.now) }
 {
-    let founds = explore_entries(alloc, files, options, entries)?;
+    let founds = explore_entries(alloc, &mut Traversal, files, options, entries)?;
     let modules = founds.len();
     let calls = calls_of(&founds);
     let list = faults_found(alloc, entries, founds)?;

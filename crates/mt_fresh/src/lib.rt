@@ -5,7 +5,7 @@ mod fresh;
 mod graph_revision;
 mod traversal;
 
-pub use fresh::{AllFaults, faults, traverse};
+pub use fresh::{AllFaults, faults, traverse, traverse_by};
 pub use graph_revision::revision_of_graph;
 pub use mt_files::{BuildFault, fault_text};
 pub use mt_graph::{

@@ -269,3 +269,31 @@ settled_members es fs h =
     ap (settled empty) (member_entries es fs)
     ∙ settled_from fs (ascending (es ++ paths_of fs)) [] (ascending_sorted (es ++ paths_of fs))
     ∙ same_graph es fs h (flat_map (faults_with fs) (ascending (es ++ paths_of fs))) refl
+
+-- ---- the paths of a graph without a fault
+
+kept_paths : (fs : List Found) (ps : List (List ℕ)) → flat_map (faults_with fs) ps ≡ [] → map (λ (e : List ℕ × Node). e.0) (filter_map (node_with fs) ps) ≡ ps
+kept_paths fs [] none = refl
+kept_paths fs (p ∷ ps) none =
+    elim (is_decided fs p) [
+      | inr bad ↦ let k : bad.0 ∷ bad.1.0 ≡ [] = sym bad.1.1.0 ∙ first_none (faults_with fs p) (flat_map (faults_with fs) ps) none in cc
+      | inl good ↦
+          ap (λ o. map (λ (e : List ℕ × Node). e.0) (cons_option o (filter_map (node_with fs) ps))) good.1.2
+          ∙ ap (λ z. p ∷ z) (kept_paths fs ps (rest_none (faults_with fs p) (flat_map (faults_with fs) ps) none))
+    ]
+
+-- the modules are at the paths of what was found
+pub judged_keys :
+    (es : List (List ℕ)) (fs : List Found) → IsStrictlySortedBy (slice_cmp nat_cmp) (paths_of fs) → flat_map (faults_with fs) (ascending (es ++ paths_of fs)) ≡ []
+    → keys (judged_graph fs) ≡ paths_of fs
+judged_keys es fs h none =
+    let here : flat_map (faults_with fs) (paths_of fs) ≡ [] = subst (λ ps. flat_map (faults_with fs) ps ≡ []) (all_found es fs h none) none in
+    let same : map (λ (e : List ℕ × Node). e.0) (filter_map node_under fs) ≡ paths_of fs = ap (map (λ (e : List ℕ × Node). e.0)) (sym (nodes_along fs h)) ∙ kept_paths fs (paths_of fs) here in
+    ap (map (λ (e : List ℕ × Node). e.0)) (entries_by nat_list_cmp_total (filter_map node_under fs) (subst (IsStrictlySortedBy (slice_cmp nat_cmp)) (sym same) h)) ∙ same
+
+-- something was found at each entry
+pub entry_found :
+    (es : List (List ℕ)) (fs : List Found) (q : List ℕ) → flat_map (faults_with fs) (ascending (es ++ paths_of fs)) ≡ [] → list_any (bytes_eq q) es ≡ true
+    → list_any (bytes_eq q) (paths_of fs) ≡ true
+entry_found es fs q none k =
+    none_missing fs q (each_none fs (ascending (es ++ paths_of fs)) q none (has_ascending (es ++ paths_of fs) q ∙ list_any-append (bytes_eq q) es (paths_of fs) ∙ ap (λ b. b || list_any (bytes_eq q) (paths_of fs)) k))

@@ -1,4 +1,5 @@
 pub mod Growth
+pub mod Honest
 pub mod Seen
 pub mod Readings
 pub mod Children

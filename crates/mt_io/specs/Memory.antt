@@ -5,7 +5,7 @@ use Rattle.std.specs.Coded.{Coded, code_by, coded×, coded_list, coded_ℕ}
 use Rattle.std.specs.FinMap as map
 use Rattle.mt_io.specs.Files.{Files}
 use Rattle.mt_io.specs.Seen.{Seen}
-use Rattle.mt_io.specs.Told.{Reading}
+use Rattle.mt_io.specs.Told.{Kept, Reading}
 use Rattle.mt_io.specs.declared.trouble.Trouble.{Trouble}
 use Rattle.mt_io.specs.declared.trouble.Trouble.TheVariants.{Failed, NoMemory}
 
@@ -35,7 +35,7 @@ after_pass plan = record { failing = plan.failing; calls = calls_after plan; fau
 abbrev pub after_fault : Plan → Plan
 after_fault plan = record { failing = plan.failing; calls = calls_after plan; faults = min (plan.faults + 1) (2 ^ 64 - 1) }
 
--- a call of a folder in memory fails exactly where its plan says so, and is counted
+-- a call of an object in memory fails exactly where its plan says so, and is counted
 pub record FollowsPlan {T : Type 0} (before after : Plan) (result : Result T Trouble) : Type 0 where
   pub fails : IsErrOf result Failed ↔ NextFails before
   pub fault : IsErrOf result Failed → after ≡ after_fault before
@@ -61,6 +61,26 @@ seen_folder folder = record { faults = folder.plan.faults; told = Some folder.fi
 -- what contracts see of a folder in memory that never fails
 abbrev pub seen_sure_folder : Files → Seen Files
 seen_sure_folder files = record { faults = 0; told = Some files; beside = None }
+
+-- a store in memory: the bytes by their keys, and which of its calls fail
+pub record PlannedStore : Type 0 where
+  pub kept : Kept
+  pub plan : Plan
+
+-- it is stored as the tuple of its fields
+abbrev pub planned_store_code : Coded PlannedStore
+planned_store_code =
+    code_by (Kept × (List ℕ × (ℕ × ℕ))) (coded× (map.code (coded_list coded_ℕ) (coded_list coded_ℕ)) (coded× (coded_list coded_ℕ) (coded× coded_ℕ coded_ℕ)))
+    (λ s. (s.kept, (s.plan.failing, (s.plan.calls, s.plan.faults))))
+    (λ t. record { kept = t.0; plan = record { failing = t.1.0; calls = t.1.1.0; faults = t.1.1.1 } }) (λ _. refl)
+
+-- what contracts see of it: it tells what it keeps
+abbrev pub seen_store : PlannedStore → Seen Kept
+seen_store store = record { faults = store.plan.faults; told = Some store.kept; beside = None }
+
+-- what contracts see of a store in memory that never fails
+abbrev pub seen_sure_store : Kept → Seen Kept
+seen_sure_store kept = record { faults = 0; told = Some kept; beside = None }
 
 -- a sink in memory: the bytes that it took, for how many more it has room, and which of its calls fail
 pub record PlannedSink : Type 0 where

@@ -43,3 +43,16 @@ same_line number = field (codes "same ") number (codes "\n")
 -- the line of a build that was refused once so many changes were accepted
 abbrev pub refused_line : ℕ → BuildFault → List ℕ
 refused_line changes fault = field (codes "refused changes ") changes (codes " " ++ (text_of fault ++ codes "\n"))
+
+-- the numbers of modules, edits and revisions of a generated run, which begin its line
+abbrev pub grown_counts : ℕ → ℕ → ℕ → List ℕ
+grown_counts modules edits revisions = codes "grown modules " ++ (decimal modules ++ (codes " edits " ++ (decimal edits ++ (codes " revisions " ++ decimal revisions))))
+
+-- the line of a generated run: how many modules and edits were asked for, and of the last revision its number, how many modules live, how many paths have numbers, and the length and digest of its bundle
+abbrev pub grown_figures : ℕ → ℕ → ℕ → ℕ → ℕ → ℕ → List ℕ → List ℕ
+grown_figures modules edits revisions live numbered size digest = grown_counts modules edits revisions ++ field (codes " live ") live (field (codes " numbered ") numbered (bundle_fields size digest))
+
+-- the same of a last revision
+abbrev pub grown_line : ℕ → ℕ → ℕ → Revision → List ℕ
+grown_line modules edits numbered revision =
+    grown_figures modules edits revision.number (len revision.modules) numbered (length (bundle_of revision)) (encode_lower (sha256 (bundle_of revision)))

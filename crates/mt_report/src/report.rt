@@ -14,13 +14,13 @@ use std::alloc::{AllocError, Global};
 
 /// The length and the digest of a bundle, of which no byte is kept.
 #[derive(Drop)]
-struct BundleSum {
-    length: usize,
-    digest: Text,
+pub(crate) struct BundleSum {
+    pub(crate) length: usize,
+    pub(crate) digest: Text,
 }
 
 /// The length and the digest of a revision's bundle. Refused only where memory runs out.
-fn sum_bundle(alloc: Global, revision: &Revision) -> Result<BundleSum, AllocError>
+pub(crate) fn sum_bundle(alloc: Global, revision: &Revision) -> Result<BundleSum, AllocError>
     ensures length { IfOk result (λ sum. sum.length ≡ length (bundle_of revision.now)) }
     ensures digest { IfOk result (λ sum. sum.digest ≡ encode_lower (sha256 (bundle_of revision.now))) }
 {

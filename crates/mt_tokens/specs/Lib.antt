@@ -1,4 +1,5 @@
 pub mod Brackets
+pub mod CacheEntries
 pub mod Comments
 pub mod Cut
 pub mod Deps

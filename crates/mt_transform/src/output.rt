@@ -46,6 +46,29 @@ impl Model for Output {
 }
 
 impl Output {
+    /// An output of these parts. Nothing says that the body is what the source becomes.
+    pub fn from_parts(
+        source: Shared<Bytes>,
+        strip: bool,
+        kind: PathKind,
+        body: Text,
+        names: NameList,
+        dynamic: u32,
+    ) -> Output
+        requires small { length source ≤ max_source_bytes }
+        requires few { length names ≤ max_dependencies }
+        ensures parts { result ≡ record { source = source; strip = strip; kind = kind; body = body; names = names; dynamic = dynamic } }
+    {
+        Output {
+            source,
+            strip,
+            kind,
+            body: Bytes::from_vec(body.into_string().into_bytes()),
+            names,
+            dynamic,
+        }
+    }
+
     /// The source, unchanged.
     pub fn source(&self) -> &Shared<Bytes>
         ensures value { result.now ≡ self.now.source }

@@ -1,0 +1,4 @@
+pub mod Commands
+pub mod Folders
+pub mod ModulePaths
+pub mod Sizes
