@@ -107,9 +107,9 @@ if [ "$(id -u)" -ne 0 ] || "${as_nobody[@]}" test -x "$work/metro" 2>/dev/null; 
   locked_words "metro: word 2" bundle
   locked_words "metro: word 2" replay
   locked_words "metro: word 2" deps
-  locked_words "metro: word 3" check index.js b.js
+  locked_words "metro: word 3" check index.js /
   locked_words "metro: word 2" replay -a.js
-  locked_words "metro: word 3" replay index.js b.js
+  locked_words "metro: word 3" replay index.js /
 
   (cd "$folder/one" && exec "${as_nobody[@]}" timeout 60 "$work/metro" bundle index.js) >"$work/out" 2>/dev/full </dev/null
   got=$?

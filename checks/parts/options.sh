@@ -54,7 +54,7 @@ for workers in 1 2 8 64; do
 done
 
 # Whole revisions.
-folder="$work/whole"
+folder="$work/full-replay"
 files_in "$folder" index.js '1;'
 printf 'put /index.js 2\n2;\nbuild\nbuild\nput /index.js 1\n(\nbuild\nend\n' >"$work/script"
 {

@@ -28,7 +28,7 @@ check "a value is not empty" 2 "$work/empty" "metro: word 3" "$folder" bundle a.
 check "development is true or false" 2 "$work/empty" "metro: word 3" "$folder" bundle --dev yes a.js
 check "a platform is in lower case" 2 "$work/empty" "metro: word 3" "$folder" bundle a.js --platform=iOS
 check "whole revisions are of replay alone" 2 "$work/empty" "metro: word 3" "$folder" bundle a.js --full
-check "words are refused before the folder is read" 2 "$work/empty" "metro: word 5" "$folder" bundle a.js --root gone --dev
+check "words are refused before the folder is read" 2 "$work/empty" "metro: word 6" "$folder" bundle a.js --root gone --dev
 for command in bundle deps check replay; do
   check "$command without an entry is refused" 2 "$work/empty" "metro: word 2" "$folder" $command
   check "a bad option of $command is refused" 2 "$work/empty" "metro: word 2" "$folder" $command --full=1
